@@ -1,4 +1,4 @@
-use Rattle.std.proofs.Common.{◌≡◌, ◌≤◌, length, get_or, arith, List, ℕ}
+use Rattle.std.proofs.Common.{◌≡◌, arith}
 use Rattle.edge_io.specs.Memory.{place}
 use Rattle.edge_io.proofs.Entries.{entries-set, entries-push}
 use Rattle.edge_io.proofs.mem_room.put_entry.Goals as goal
