@@ -1,0 +1,4 @@
+pub mod Steps
+pub mod Plain
+pub mod History
+pub mod Allowed

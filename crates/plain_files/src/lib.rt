@@ -1,0 +1,8 @@
+//! Calls on plain files, their replies, and the machine that answers them one at a time, as definitions.
+#![tactic(auto)]
+
+mod calls;
+mod words;
+
+pub use calls::{Call, Numbered, PlainFile, Reply, Request, allowed};
+pub use words::Word;
