@@ -65,6 +65,8 @@ module _ {B O E : Type 0} (stands : B → O → List (Entry E) → Type 0) (may 
         (λ (t : (j ≡ id) × (w ≡ u)). ⊎_elim (λ has. inl has) (λ q. absurd (none_some (sym (ap (λ (z : V). z.opening) q.0) ∙ is))) (r.all j v (subst (λ z. get_elem? vs z ≡ some v) (sym t.0) at) ne))
         (λ (t : (j ≢ id) × (get_elem? vs j ≡ some u)). ⊎_elim (λ has. inl has) (λ q. inr q) (r.all j u t.1 ne))
         (at_set vs id j w u e);
+    once = r.once;
+    below = λ n has. let l = r.below n has in subst (λ z. n < z) (sym (length-set vs id w)) l;
     kept = λ y has. let q = r.kept y has in let other : y.number ≢ id = λ e. none_some (ap (λ (z : V). z.opening) (same_at vs id gone v (subst (λ z. get_elem? vs z ≡ some gone) e q.0) at) ∙ is) in
         (set_else vs id y.number w other ∙ q.0, ends y.number other ∙ q.1, starts_on h' h y.seen longer q.2);
   }
@@ -78,7 +80,7 @@ module _ {B O E : Type 0} (stands : B → O → List (Entry E) → Type 0) (may 
         w,
         subst (λ z. get_elem? (slice_set s.views id w) z ≡ some w) here (set_here s.views id w (at_inside s.views id v at)),
         is,
-        record { count = k'.count; all = k'.all; kept = k'.kept },
+        record { count = k'.count; all = k'.all; once = k'.once; below = k'.below; kept = k'.kept },
       ))
       (λ other. (x.0, set_else s.views id 0 w (λ e. other (sym e)) ∙ x.1, x.2, kept))
 

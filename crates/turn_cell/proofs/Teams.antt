@@ -19,6 +19,7 @@ use Rattle.turn_cell.specs.Rule.{first_view, gone, HasJoined, Knows, IsRoot, IsT
 use Rattle.turn_cell.specs.Steps.{SeesAllowed}
 use Rattle.turn_cell.specs.Teams.{without, left_of, right_of, longer, joined_of, joined_to, IsWhole}
 use Rattle.turn_cell.proofs.Plain.{apart, none_some, at_inside, same_at, starts_shorter, starts_whole, entries_between}
+use Rattle.turn_cell.proofs.Numbers.{once_split, once_joined, has_without}
 use Rattle.turn_cell.proofs.Keeps as k
 
 module _ {A : Type 0} where
@@ -116,6 +117,8 @@ module _ {B O E : Type 0} (stands : B → O → List (Entry E) → Type 0) (may 
       record {
         count = refl;
         all = λ j u e ne. absurd (ne (only (first_view alone first o) j u e).0);
+        once = λ n. omega arith;
+        below = λ n has. absurd (has_none n has);
         kept = λ x has. absurd (has_none x has);
       },
     );
@@ -175,6 +178,9 @@ module _ {B O E : Type 0} (stands : B → O → List (Entry E) → Type 0) (may 
                 (λ t. ⊎_elim (λ has. inl (has.0, at_longer v.split (v.passes ∷ []) has.0 j has.1)) (λ z. inr z) (root.all j u t.1 ne)) (at_set s.views id j (left_of v) u was))
                 (λ t. inl (length v.split, subst (λ z. get_elem? (v.split ++ v.passes ∷ []) (length v.split) ≡ some z) (count ∙ (sym long ∙ sym t.0)) (at_last v.split v.passes (length v.split) refl)))
                 (snoc_at (slice_set s.views id (left_of v)) (right_of v) j u e);
+            once = once_split v.split v.joined v.passes root.once (λ has. let l = root.below v.passes has in omega arith) (λ y has same_number. let inside' = at_inside s.views y.number gone (root.kept y has).0 in omega arith);
+            below = λ n has. let total = length-append (slice_set s.views id (left_of v)) (right_of v ∷ []) in
+                ⊎_elim (λ e. let l = root.below n (has.0, e) in omega arith) (λ (t : (has.0 ≡ length v.split) × (v.passes ≡ n)). let new = t.1 in omega arith) (snoc_at v.split v.passes has.0 n has.1);
             kept = λ y has. let z = root.kept y has in
                 (stays y.number gone (λ e. none_some (ap (λ (t : V). t.opening) (same_at s.views id gone v (subst (λ t. get_elem? s.views t ≡ some gone) e z.0) at) ∙ opened)) z.0, z.1, z.2);
           },
@@ -242,6 +248,9 @@ module _ {B O E : Type 0} (stands : B → O → List (Entry E) → Type 0) (may 
                 (λ c. ⊎_elim (λ (t : (j ≡ id) × (joined_to v w ≡ u)). absurd (ne (t.0 ∙ here)))
                 (λ t. ⊎_elim (λ has. inl (without_has w.number j v.split has.0 has.1 (λ z. t.0 (z ∙ p.numbered)))) (λ z. inr (z.0, (z.1.0, (z.1.1.0, at_longer v.joined (joined_of w ∷ []) z.1.1.0 z.1.0 z.1.1.1), z.1.2))) (root.all j u t.2 ne)) c)
                 (split_up j u e);
+            once = once_joined v.split v.joined (joined_of w) root.once
+                (λ y has same_number. none_some (ap (λ (t : V). t.opening) (same_at s.views other gone w (subst (λ z. get_elem? s.views z ≡ some gone) (same_number ∙ p.numbered) (root.kept y has).0) at_w) ∙ opened'));
+            below = λ n has. let l = root.below n (has_without w.number n v.split has) in subst (λ z. n < z) (sym long) l;
             kept = λ y has. ⊎_elim
                 (λ was. let z = root.kept y (has.0, was) in (
                   dite (ℕ_discrete y.number other) (λ e. subst (λ t. get_elem? vs2 t ≡ some gone) (sym e) gone_at)

@@ -1,5 +1,5 @@
 -- The rule of the turn: one word, twice the count of events and 1 while a pass holds, and one slot with the book. It holds at every moment between two steps.
-use Rattle.std.specs.Prelude.{◌≡◌, ◌≢◌, ℕ, ◌+◌, ◌*◌, ◌≤◌, ◌^◌, Bool, true, false, cond, List, [], ◌∷◌, length, ◌⊎◌}
+use Rattle.std.specs.Prelude.{◌≡◌, ◌≢◌, ℕ, ◌+◌, ◌*◌, ◌<◌, ◌≤◌, ◌^◌, Bool, true, false, cond, List, [], ◌∷◌, map, length, ◌⊎◌}
 use mathlib.Core.Option.{some}
 use lib.ListN.{get_elem?}
 use Rattle.std.specs.declared.option.Option.{Option}
@@ -8,11 +8,15 @@ use Rattle.atomic_table.specs.Table.{State}
 use Rattle.turn_cell.specs.declared.book.Entry.{Entry}
 use Rattle.turn_cell.specs.declared.view.Joined.{Joined}
 use Rattle.turn_cell.specs.declared.view.View.{View}
-use Rattle.turn_cell.specs.History.{Has, entries_of, StartsWith, AllMay, MayMake}
+use Rattle.turn_cell.specs.History.{Has, times, entries_of, StartsWith, AllMay, MayMake}
 
 -- what the word has beside twice the count
 abbrev pub bit : Bool → ℕ
 bit held = cond held 1 0
+
+-- the numbers of joined passes
+abbrev pub numbers_of : {E : Type 0} → List (Joined E) → List ℕ
+numbers_of js = map (λ x. x.number) js
 
 module _ {O E : Type 0} where
   -- the only view of a new turn
@@ -38,10 +42,12 @@ module _ {O E : Type 0} where
     pub settled : entries_of v.number v.seen ≡ v.own
     pub holds : v.holding ≡ true → (held ≡ true) × (port ≡ holder) × (v.seen ≡ history)
 
-  -- Each number made is the first pass's own, or stands among those that it keeps as not yet joined or as joined. What it keeps of a joined one is what that one made and had seen.
+  -- Each number made is the first pass's own, or stands once among those that it keeps as not yet joined or as joined. What it keeps of a joined one is what that one made and had seen.
   pub record IsRoot (history : List (Entry E)) (views : List (View O E)) (v : View O E) : Type 0 where
     pub count : v.passes ≡ length views
     pub all : (j : ℕ) (u : View O E) → get_elem? views j ≡ some u → j ≢ 0 → Has v.split j ⊎ ((u ≡ gone) × HasJoined v j)
+    pub once : (n : ℕ) → times n v.split + times n (numbers_of v.joined) ≤ 1
+    pub below : (n : ℕ) → Has v.split n → n < length views
     pub kept : (x : Joined E) → Has v.joined x → (get_elem? views x.number ≡ some gone) × (entries_of x.number history ≡ x.entries) × StartsWith history x.seen
 
 module _ {B O E : Type 0} (stands : B → O → List (Entry E) → Type 0) (may : O → ℕ → E → Type 0) (alone : Bool) (first : ℕ) (o : O) where
