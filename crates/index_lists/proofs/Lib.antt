@@ -1,0 +1,6 @@
+pub mod Counts
+pub mod Neighbours
+pub mod Puts
+pub mod Paths
+pub mod Ringed
+pub mod Several

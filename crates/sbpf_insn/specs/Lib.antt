@@ -1,0 +1,12 @@
+pub mod Opcodes
+pub mod Table
+pub mod Ranges
+pub mod Program
+pub mod Cells
+pub mod Decoded
+pub mod Bits
+pub mod Spelled
+pub mod Arithmetic
+pub mod Machine
+pub mod Accepted
+pub mod Refusal

@@ -1,0 +1,13 @@
+use Rattle.std.proofs.Common.{refl, inr, ◌≡◌, ◌∷◌, [], ◌++◌, ap, sym, ◌∙◌}
+use Rattle.turn_cell.proofs.Clients.{gives_one, one_made}
+use Rattle.turn_clients.specs.Counting.{adding, Stands, ActsAs}
+use Rattle.turn_clients.proofs.add.add_once.Goals as goal
+
+pub give-requires-clause-stands : goal.give-requires-clause-stands
+give-requires-clause-stands g c =
+    gives_one Stands ActsAs _ _ (g.K.Desk.view c.args.desk.now) (g.K.Desk.view c.take.new.self) (adding c.args.actor c.args.amount) c.take.ensures.seen (c.add.ensures _ _ _ c.in_ok-counter.ensures.ok.1) c.requires.may
+
+pub returns-clause-made : goal.returns-clause-made
+returns-clause-made g c =
+    one_made (g.K.Desk.view c.args.desk.now) (g.K.Desk.view c.take.new.self) _ (adding c.args.actor c.args.amount) c.take.ensures.seen
+        (c.give.ensures.seen _ (c.add.ensures _ _ _ c.in_ok-counter.ensures.ok.1) (inr (adding c.args.actor c.args.amount, refl)))
