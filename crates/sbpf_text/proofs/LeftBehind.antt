@@ -1,29 +1,26 @@
 -- What the first pass took, the second takes too, but for labels that no line has.
 use Rattle.std.proofs.Common.{◌≡◌, ℕ, ◌+◌, ◌≤◌, ◌^◌, List, [], ◌∷◌, ◌++◌, Bool, true, false, refl, ap, sym, subst, ◌∙◌, ◌-◌, ◌<◌, Option, Some, None, arith}
-use Rattle.std.specs.Prelude.{ℤ, pos, Result, Ok, Err, nat_le, nat_lt, ◌&&◌, bytes_eq, if◌then◌else◌}
+use Rattle.std.specs.Prelude.{pos, Result, Ok, Err, nat_le, nat_lt, ◌&&◌, bytes_eq, if◌then◌else◌}
 use Rattle.std.specs.List.{list_all}
 use Rattle.std.proofs.lemmas.Bool.Decides.{nat_tests}
 use Rattle.std.proofs.lemmas.List.{append-nil}
 use Rattle.sbpf_insn.specs.declared.insn.Insn.{Insn}
 use Rattle.sbpf_insn.specs.declared.insn.Insn.TheVariants as insn
-use Rattle.sbpf_insn.specs.declared.insn.Reg.{Reg}
-use Rattle.sbpf_insn.specs.declared.insn.Src.{Src}
 use Rattle.sbpf_insn.specs.Decoded.{slots_of}
 use Rattle.sbpf_insn.specs.Cells.{slots, insns}
 use Rattle.sbpf_insn.proofs.CellLaws.{slots_grown}
 use Rattle.sbpf_text.specs.declared.fault.AsmKind.{AsmKind}
 use Rattle.sbpf_text.specs.declared.fault.AsmKind.TheVariants as kind
-use Rattle.sbpf_text.specs.declared.fault.AsmFault.{AsmFault}
 use Rattle.sbpf_text.specs.declared.mnemonic.Mnemonic.{Mnemonic}
 use Rattle.sbpf_text.specs.declared.mnemonic.Mnemonic.TheVariants as mnemonic
 use Rattle.sbpf_text.specs.Faults.{◌>>=◌, or_fault, at_line}
 use Rattle.sbpf_text.specs.Lexing.{lines, label_of, behind_label, without_comment, is_line_byte, has_no_word, first_word, behind_word, operand_words, begins_with, is_label}
 use Rattle.sbpf_text.specs.Forms.{is_register, is_value, is_target, is_sign}
-use Rattle.sbpf_text.specs.Numbers.{offset, distance, signed}
+use Rattle.sbpf_text.specs.Numbers.{offset, signed}
 use Rattle.sbpf_text.specs.Labels.{slot_of}
 use Rattle.sbpf_text.specs.Operands.{register_at, value_at, reach, label_at, target_at}
 use Rattle.sbpf_text.specs.Mnemonics.{mnemonic_spelled}
-use Rattle.sbpf_text.specs.Instructions.{one_register, two_registers, register_value, register_wide, register_address, address_number, address_register, one_target, register_value_target_of, register_value_target, no_operands, insn_of, within_code, insn_with, insn_at}
+use Rattle.sbpf_text.specs.Instructions.{one_target, register_value_target_of, register_value_target, insn_of, within_code, insn_with, insn_at}
 use Rattle.sbpf_text.specs.Asm.{SoFar, nothing, is_new, with_label, slot_behind, with_insn, scan_text, scan_line, scan, settle_line, settle}
 use Rattle.sbpf_text.specs.SecondPass.{IsSettled}
 

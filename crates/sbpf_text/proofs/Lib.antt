@@ -7,7 +7,7 @@ pub mod Cutting
 pub mod OperandsBack
 pub mod MnemonicsFound
 pub mod MnemonicWords
-pub mod Again
-pub mod Lines
+pub mod InstructionsBack
+pub mod TextBack
 pub mod CellTexts
 pub mod LeftBehind

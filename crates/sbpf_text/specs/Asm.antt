@@ -22,8 +22,11 @@ pub record SoFar : Type 0 where
   pub labels : List (List ℕ × ℕ)
   pub slot : ℕ
 
+abbrev pub so_far : List (List ℕ × ℕ) → ℕ → SoFar
+so_far labels slot = record { labels = labels; slot = slot }
+
 abbrev pub nothing : SoFar
-nothing = record { labels = []; slot = 0 }
+nothing = so_far [] 0
 
 abbrev pub is_new : Option ℕ → Bool
 is_new None = true
@@ -76,13 +79,13 @@ asm text = scan 1 nothing (lines text) >>= λ a. settle a.labels 1 [] (lines tex
 -- ---- what the steps of the first pass returned, unless memory ran out: the slot, beside the labels
 
 abbrev pub Labelled : Result (Unit {0}) LineErr → List (List ℕ × ℕ) → ℕ → Result SoFar AsmKind → Type 0
-Labelled (Ok x) labels slot read = read ≡ Ok (record { labels = labels; slot = slot })
+Labelled (Ok x) labels slot read = read ≡ Ok (so_far labels slot)
 Labelled (Err e) labels slot read = Fails e read
 
 abbrev pub Scans : Result ℕ LineErr → List (List ℕ × ℕ) → Result SoFar AsmKind → Type 0
-Scans (Ok slot) labels read = read ≡ Ok (record { labels = labels; slot = slot })
+Scans (Ok slot) labels read = read ≡ Ok (so_far labels slot)
 Scans (Err e) labels read = Fails e read
 
 abbrev pub Scanned : Result ℕ TextErr → List (List ℕ × ℕ) → Result SoFar AsmFault → Type 0
-Scanned (Ok slot) labels read = read ≡ Ok (record { labels = labels; slot = slot })
+Scanned (Ok slot) labels read = read ≡ Ok (so_far labels slot)
 Scanned (Err e) labels read = Refuses e read

@@ -1,5 +1,5 @@
 -- The text of code: a line for each instruction. This project's own.
-use Rattle.std.specs.Prelude.{ℕ, suc, ℤ, pos, negsuc, List, [], ◌∷◌, ◌++◌, codes, decimal, Option, Some, None}
+use Rattle.std.specs.Prelude.{ℕ, suc, ℤ, pos, negsuc, List, [], ◌∷◌, ◌++◌, codes, decimal}
 use Rattle.std.specs.Fmt.{signed_decimal}
 use Rattle.sbpf_insn.specs.declared.insn.Reg.{Reg}
 use Rattle.sbpf_insn.specs.declared.insn.Src.{Src}

@@ -1,7 +1,7 @@
 // Code from its text.
 ghost use Rattle.std.specs.Prelude.{◌≡◌, ◌≤◌, ◌<◌, ◌+◌, ◌^◌, [], map, IfOk, IfErr, OnOk, ◌++◌, IfSome, Some, option_copied};
 ghost use Rattle.sbpf_insn.specs.Cells.{slots, insns};
-ghost use Rattle.sbpf_text.specs.Asm.{with_label, scan_text, scan_line, scan, nothing, settle_line, settle, asm, Scans, Labelled, Scanned, slot_behind};
+ghost use Rattle.sbpf_text.specs.Asm.{with_label, scan_text, scan_line, scan, so_far, nothing, settle_line, settle, asm, Scans, Labelled, Scanned, slot_behind};
 ghost use Rattle.sbpf_text.specs.Faults.{Gives, Assembles, IsFaultAt};
 ghost use Rattle.sbpf_text.specs.Instructions.{IsFitting};
 ghost use Rattle.sbpf_text.specs.Lexing.{lines};
@@ -30,7 +30,7 @@ fn at_line(i: usize, e: LineErr) -> TextErr
 
 #[tactic(auto, unfolding(crate::specs::Asm::with_label))]
 fn add_label(alloc: Global, labels: &mut Labels, slot: u32, name: &[u8]) -> Result<(), LineErr>
-    ensures { Labelled result labels.new slot (with_label (record { labels = labels.old; slot = slot }) (Some name.now)) }
+    ensures { Labelled result labels.new slot (with_label (so_far labels.old slot) (Some name.now)) }
 {
     if !is_label(name) {
         return Err(LineErr::Kind(AsmKind::Label));
@@ -49,7 +49,7 @@ fn with_label(
     slot: u32,
     label: Option<&[u8]>,
 ) -> Result<(), LineErr>
-    ensures { Labelled result labels.new slot (with_label (record { labels = labels.old; slot = slot }) (option_copied label.entry)) }
+    ensures { Labelled result labels.new slot (with_label (so_far labels.old slot) (option_copied label.entry)) }
 {
     match label {
         Some(name) => add_label(alloc, labels, slot, name),
@@ -73,7 +73,7 @@ fn behind(slot: u32, insn: Option<Insn>) -> u32
 #[tactic(auto, unfolding(crate::specs::Asm::scan_text))]
 fn scan_text(alloc: Global, labels: &mut Labels, slot: u32, text: &[u8]) -> Result<u32, LineErr>
     requires { slot ≤ 4096 }
-    ensures is { Scans result labels.new (scan_text (record { labels = labels.old; slot = slot }) text.now) }
+    ensures is { Scans result labels.new (scan_text (so_far labels.old slot) text.now) }
     ensures small { IfOk result (λ s. s ≤ 4096) }
 {
     let (label, rest) = cut_label(text);
@@ -85,7 +85,7 @@ fn scan_text(alloc: Global, labels: &mut Labels, slot: u32, text: &[u8]) -> Resu
 #[tactic(auto, unfolding(crate::specs::Asm::scan_line))]
 fn scan_line(alloc: Global, labels: &mut Labels, slot: u32, line: &[u8]) -> Result<u32, LineErr>
     requires { slot ≤ 4096 }
-    ensures is { Scans result labels.new (scan_line (record { labels = labels.old; slot = slot }) line.now) }
+    ensures is { Scans result labels.new (scan_line (so_far labels.old slot) line.now) }
     ensures small { IfOk result (λ s. s ≤ 4096) }
 {
     if !is_line(line) {

@@ -20,7 +20,8 @@ use sbpf_insn::{AluOp, AtomicOp, Cond, Insn, Order, Size};
 use std::alloc::Global;
 
 fn alu(wide: bool, op: AluOp, words: &[&[u8]]) -> Result<Insn, AsmKind>
-    ensures is { result ≡ (register_value (map (λ x. x.now) words.now) and_then λ o. Ok (insn.Alu wide op o.0 o.1)) }
+    ensures is { result ≡ (register_value (map (λ x. x.now) words.now)
+        and_then λ o. Ok (insn.Alu wide op o.0 o.1)) }
     ensures formed { IfOk result (λ i. IsTrue (is_well_formed i)) }
 {
     let (dst, src) = register_value(words)?;
@@ -28,7 +29,8 @@ fn alu(wide: bool, op: AluOp, words: &[&[u8]]) -> Result<Insn, AsmKind>
 }
 
 fn neg(wide: bool, words: &[&[u8]]) -> Result<Insn, AsmKind>
-    ensures is { result ≡ (one_register (map (λ x. x.now) words.now) and_then λ dst. Ok (insn.Neg wide dst)) }
+    ensures is { result ≡ (one_register (map (λ x. x.now) words.now)
+        and_then λ dst. Ok (insn.Neg wide dst)) }
     ensures formed { IfOk result (λ i. IsTrue (is_well_formed i)) }
 {
     let dst = one_register(words)?;
@@ -37,7 +39,8 @@ fn neg(wide: bool, words: &[&[u8]]) -> Result<Insn, AsmKind>
 
 fn mov_sx(wide: bool, bits: u8, words: &[&[u8]]) -> Result<Insn, AsmKind>
     requires { IsTrue (is_mnemonic (mnemonic.MovSx wide bits)) }
-    ensures is { result ≡ (two_registers (map (λ x. x.now) words.now) and_then λ o. Ok (insn.MovSx wide bits o.0 o.1)) }
+    ensures is { result ≡ (two_registers (map (λ x. x.now) words.now)
+        and_then λ o. Ok (insn.MovSx wide bits o.0 o.1)) }
     ensures formed { IfOk result (λ i. IsTrue (is_well_formed i)) }
 {
     let (dst, src) = two_registers(words)?;
@@ -51,7 +54,8 @@ fn mov_sx(wide: bool, bits: u8, words: &[&[u8]]) -> Result<Insn, AsmKind>
 
 fn end(order: Order, bits: u8, words: &[&[u8]]) -> Result<Insn, AsmKind>
     requires { IsTrue (is_mnemonic (mnemonic.End order bits)) }
-    ensures is { result ≡ (one_register (map (λ x. x.now) words.now) and_then λ dst. Ok (insn.End order bits dst)) }
+    ensures is { result ≡ (one_register (map (λ x. x.now) words.now)
+        and_then λ dst. Ok (insn.End order bits dst)) }
     ensures formed { IfOk result (λ i. IsTrue (is_well_formed i)) }
 {
     let dst = one_register(words)?;
@@ -59,7 +63,8 @@ fn end(order: Order, bits: u8, words: &[&[u8]]) -> Result<Insn, AsmKind>
 }
 
 fn ja(labels: &Labels, slot: u32, settled: bool, words: &[&[u8]]) -> Result<Insn, AsmKind>
-    ensures is { result ≡ (one_target (2 ^ 15) labels.now slot settled (map (λ x. x.now) words.now) and_then λ t. Ok (insn.Ja t)) }
+    ensures is { result ≡ (one_target (2 ^ 15) labels.now slot settled (map (λ x. x.now) words.now)
+        and_then λ t. Ok (insn.Ja t)) }
     ensures formed { IfOk result (λ i. IsTrue (is_well_formed i)) }
 {
     let offset = target16(labels, slot, settled, words)?;
@@ -67,7 +72,8 @@ fn ja(labels: &Labels, slot: u32, settled: bool, words: &[&[u8]]) -> Result<Insn
 }
 
 fn ja_far(labels: &Labels, slot: u32, settled: bool, words: &[&[u8]]) -> Result<Insn, AsmKind>
-    ensures is { result ≡ (one_target (2 ^ 31) labels.now slot settled (map (λ x. x.now) words.now) and_then λ t. Ok (insn.JaFar t)) }
+    ensures is { result ≡ (one_target (2 ^ 31) labels.now slot settled (map (λ x. x.now) words.now)
+        and_then λ t. Ok (insn.JaFar t)) }
     ensures formed { IfOk result (λ i. IsTrue (is_well_formed i)) }
 {
     let offset = target32(labels, slot, settled, words)?;
@@ -82,7 +88,8 @@ fn jump(
     cond: Cond,
     words: &[&[u8]],
 ) -> Result<Insn, AsmKind>
-    ensures is { result ≡ (register_value_target labels.now slot settled (map (λ x. x.now) words.now) and_then λ o. Ok (insn.Jump wide cond o.0 o.1 o.2)) }
+    ensures is { result ≡ (register_value_target labels.now slot settled (map (λ x. x.now) words.now)
+        and_then λ o. Ok (insn.Jump wide cond o.0 o.1 o.2)) }
     ensures formed { IfOk result (λ i. IsTrue (is_well_formed i)) }
 {
     let (dst, src, offset) = register_value_target(labels, slot, settled, words)?;
@@ -96,7 +103,8 @@ fn jump(
 }
 
 fn call(labels: &Labels, slot: u32, settled: bool, words: &[&[u8]]) -> Result<Insn, AsmKind>
-    ensures is { result ≡ (one_target (2 ^ 31) labels.now slot settled (map (λ x. x.now) words.now) and_then λ t. Ok (insn.Call t)) }
+    ensures is { result ≡ (one_target (2 ^ 31) labels.now slot settled (map (λ x. x.now) words.now)
+        and_then λ t. Ok (insn.Call t)) }
     ensures formed { IfOk result (λ i. IsTrue (is_well_formed i)) }
 {
     let offset = target32(labels, slot, settled, words)?;
@@ -104,7 +112,8 @@ fn call(labels: &Labels, slot: u32, settled: bool, words: &[&[u8]]) -> Result<In
 }
 
 fn load(size: Size, words: &[&[u8]]) -> Result<Insn, AsmKind>
-    ensures is { result ≡ (register_address (map (λ x. x.now) words.now) and_then λ o. Ok (insn.Load size o.0 o.1 o.2)) }
+    ensures is { result ≡ (register_address (map (λ x. x.now) words.now)
+        and_then λ o. Ok (insn.Load size o.0 o.1 o.2)) }
     ensures formed { IfOk result (λ i. IsTrue (is_well_formed i)) }
 {
     let (dst, base, offset) = register_address(words)?;
@@ -118,7 +127,8 @@ fn load(size: Size, words: &[&[u8]]) -> Result<Insn, AsmKind>
 
 fn load_sx(size: Size, words: &[&[u8]]) -> Result<Insn, AsmKind>
     requires { IsTrue (is_mnemonic (mnemonic.LoadSx size)) }
-    ensures is { result ≡ (register_address (map (λ x. x.now) words.now) and_then λ o. Ok (insn.LoadSx size o.0 o.1 o.2)) }
+    ensures is { result ≡ (register_address (map (λ x. x.now) words.now)
+        and_then λ o. Ok (insn.LoadSx size o.0 o.1 o.2)) }
     ensures formed { IfOk result (λ i. IsTrue (is_well_formed i)) }
 {
     let (dst, base, offset) = register_address(words)?;
@@ -131,7 +141,8 @@ fn load_sx(size: Size, words: &[&[u8]]) -> Result<Insn, AsmKind>
 }
 
 fn store_imm(size: Size, words: &[&[u8]]) -> Result<Insn, AsmKind>
-    ensures is { result ≡ (address_number (map (λ x. x.now) words.now) and_then λ o. Ok (insn.StoreImm size o.0 o.1 o.2)) }
+    ensures is { result ≡ (address_number (map (λ x. x.now) words.now)
+        and_then λ o. Ok (insn.StoreImm size o.0 o.1 o.2)) }
     ensures formed { IfOk result (λ i. IsTrue (is_well_formed i)) }
 {
     let (base, offset, imm) = address_number(words)?;
@@ -144,7 +155,8 @@ fn store_imm(size: Size, words: &[&[u8]]) -> Result<Insn, AsmKind>
 }
 
 fn store_reg(size: Size, words: &[&[u8]]) -> Result<Insn, AsmKind>
-    ensures is { result ≡ (address_register (map (λ x. x.now) words.now) and_then λ o. Ok (insn.StoreReg size o.0 o.1 o.2)) }
+    ensures is { result ≡ (address_register (map (λ x. x.now) words.now)
+        and_then λ o. Ok (insn.StoreReg size o.0 o.1 o.2)) }
     ensures formed { IfOk result (λ i. IsTrue (is_well_formed i)) }
 {
     let (base, offset, src) = address_register(words)?;
@@ -158,7 +170,8 @@ fn store_reg(size: Size, words: &[&[u8]]) -> Result<Insn, AsmKind>
 
 fn atomic(wide: bool, op: AtomicOp, fetch: bool, words: &[&[u8]]) -> Result<Insn, AsmKind>
     requires { IsTrue (is_mnemonic (mnemonic.Atomic wide op fetch)) }
-    ensures is { result ≡ (address_register (map (λ x. x.now) words.now) and_then λ o. Ok (insn.Atomic wide op fetch o.0 o.1 o.2)) }
+    ensures is { result ≡ (address_register (map (λ x. x.now) words.now)
+        and_then λ o. Ok (insn.Atomic wide op fetch o.0 o.1 o.2)) }
     ensures formed { IfOk result (λ i. IsTrue (is_well_formed i)) }
 {
     let (base, offset, src) = address_register(words)?;
@@ -173,7 +186,8 @@ fn atomic(wide: bool, op: AtomicOp, fetch: bool, words: &[&[u8]]) -> Result<Insn
 }
 
 fn load_wide(words: &[&[u8]]) -> Result<Insn, AsmKind>
-    ensures is { result ≡ (register_wide (map (λ x. x.now) words.now) and_then λ o. Ok (insn.LoadWide o.0 o.1)) }
+    ensures is { result ≡ (register_wide (map (λ x. x.now) words.now)
+        and_then λ o. Ok (insn.LoadWide o.0 o.1)) }
     ensures formed { IfOk result (λ i. IsTrue (is_well_formed i)) }
 {
     let (dst, value) = register_wide(words)?;

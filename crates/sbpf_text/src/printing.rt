@@ -35,7 +35,8 @@ fn put_far(text: &mut String, offset: i32) -> Result<(), AllocError>
 }
 
 fn put_address(text: &mut String, base: Reg, offset: i16) -> Result<(), AllocError>
-    ensures { OnOk result (string_bytes text.new ≡ string_bytes text.old ++ address_text base offset) }
+    ensures { OnOk result
+        (string_bytes text.new ≡ string_bytes text.old ++ address_text base offset) }
 {
     text.push_str("[")?;
     put_register(text, base)?;
@@ -57,14 +58,16 @@ fn put_operand(text: &mut String, operand: Operand) -> Result<(), AllocError>
 }
 
 fn put_one(text: &mut String, a: Operand) -> Result<(), AllocError>
-    ensures { OnOk result (string_bytes text.new ≡ string_bytes text.old ++ operands_text (a ∷ [])) }
+    ensures { OnOk result
+        (string_bytes text.new ≡ string_bytes text.old ++ operands_text (a ∷ [])) }
 {
     text.push_str(" ")?;
     put_operand(text, a)
 }
 
 fn put_two(text: &mut String, a: Operand, b: Operand) -> Result<(), AllocError>
-    ensures { OnOk result (string_bytes text.new ≡ string_bytes text.old ++ operands_text (a ∷ b ∷ [])) }
+    ensures { OnOk result
+        (string_bytes text.new ≡ string_bytes text.old ++ operands_text (a ∷ b ∷ [])) }
 {
     text.push_str(" ")?;
     put_operand(text, a)?;
@@ -73,7 +76,8 @@ fn put_two(text: &mut String, a: Operand, b: Operand) -> Result<(), AllocError>
 }
 
 fn put_three(text: &mut String, a: Operand, b: Operand, c: Operand) -> Result<(), AllocError>
-    ensures { OnOk result (string_bytes text.new ≡ string_bytes text.old ++ operands_text (a ∷ b ∷ c ∷ [])) }
+    ensures { OnOk result
+        (string_bytes text.new ≡ string_bytes text.old ++ operands_text (a ∷ b ∷ c ∷ [])) }
 {
     text.push_str(" ")?;
     put_operand(text, a)?;
@@ -120,19 +124,22 @@ fn mnemonic_of(insn: Insn) -> Mnemonic
 }
 
 fn put_load(text: &mut String, dst: Reg, base: Reg, offset: i16) -> Result<(), AllocError>
-    ensures { OnOk result (string_bytes text.new ≡ string_bytes text.old ++ operands_text (operand.Register dst ∷ operand.Address base offset ∷ [])) }
+    ensures { OnOk result
+        (string_bytes text.new ≡ string_bytes text.old ++ operands_text (operand.Register dst ∷ operand.Address base offset ∷ [])) }
 {
     put_two(text, Operand::Register(dst), Operand::Address(base, offset))
 }
 
 fn put_store(text: &mut String, base: Reg, offset: i16, src: Reg) -> Result<(), AllocError>
-    ensures { OnOk result (string_bytes text.new ≡ string_bytes text.old ++ operands_text (operand.Address base offset ∷ operand.Register src ∷ [])) }
+    ensures { OnOk result
+        (string_bytes text.new ≡ string_bytes text.old ++ operands_text (operand.Address base offset ∷ operand.Register src ∷ [])) }
 {
     put_two(text, Operand::Address(base, offset), Operand::Register(src))
 }
 
 fn put_operands(text: &mut String, insn: Insn) -> Result<(), AllocError>
-    ensures { OnOk result (string_bytes text.new ≡ string_bytes text.old ++ operands_text (operands_of insn)) }
+    ensures { OnOk result
+        (string_bytes text.new ≡ string_bytes text.old ++ operands_text (operands_of insn)) }
 {
     match insn {
         Insn::Alu { dst, src, .. } => put_two(text, Operand::Register(dst), source_operand(src)),

@@ -1,5 +1,6 @@
 // Texts and their code, from outside where that can be had.
 use crate::{AsmFault, AsmKind, TextErr, assemble, assemble_bytes, disassemble};
+use edge_io::Text;
 use sbpf_insn::encode;
 use std::alloc::Global;
 use std::test::Fail;
@@ -239,7 +240,7 @@ fn bytes_of(alloc: Global, text: &str) -> Option<Vec<u8>> {
 }
 
 // The text of a text's code.
-fn printed(alloc: Global, text: &str) -> Option<String> {
+fn printed(alloc: Global, text: &str) -> Option<Text> {
     match assemble(alloc, text) {
         Ok(code) => disassemble(alloc, &code).ok(),
         Err(_) => None,

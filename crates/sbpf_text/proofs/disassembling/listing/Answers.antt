@@ -3,7 +3,7 @@ use Rattle.sbpf_insn.specs.Cells.{slots}
 use Rattle.sbpf_insn.proofs.CellLaws.{insns_of-take_all}
 use Rattle.sbpf_text.specs.Asm.{asm}
 use Rattle.sbpf_text.specs.Print.{text_of}
-use Rattle.sbpf_text.proofs.Lines.{text_again}
+use Rattle.sbpf_text.proofs.TextBack.{text_again}
 use Rattle.sbpf_text.proofs.CellTexts.{put_step}
 use Rattle.sbpf_text.proofs.disassembling.listing.Goals as goal
 

@@ -21,7 +21,7 @@ use Rattle.sbpf_text.proofs.Cutting.{IsWord, AreWords, Cuts, cut_front, cut_alon
 use Rattle.sbpf_text.proofs.OperandsBack.{operand_fits, operand_is_word}
 use Rattle.sbpf_text.proofs.MnemonicsFound.{found_again}
 use Rattle.sbpf_text.proofs.MnemonicWords.{mnemonic_word}
-use Rattle.sbpf_text.proofs.Again.{insn_back, mnemonic_good, operands_good}
+use Rattle.sbpf_text.proofs.InstructionsBack.{insn_back, mnemonic_good, operands_good}
 
 -- ---- the shape of a line
 
