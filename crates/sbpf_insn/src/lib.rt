@@ -14,6 +14,8 @@ mod insn_encoding;
 pub mod laws;
 mod opcode;
 mod slot;
+#[cfg(test)]
+mod tests;
 
 pub use code::Code;
 pub use decoding::{DecodeErr, decode};
