@@ -102,3 +102,28 @@ impl Eq for Name {
 
     ghost laws = { nat_list_eq_equiv };
 }
+
+#[cfg(test)]
+mod tests {
+    use super::*;
+
+    #[test]
+    fn names_keep_the_limit(rt: HostRuntime) {
+        for text in [b"a".as_slice(), b"Log-2.old_Z9", [b'x'; 96].as_slice()] {
+            let name = Name::of(text).expect(&rt, "a name");
+            assert!(rt; name.as_slice() == text);
+            let copy = name;
+            assert!(rt; name == copy);
+        }
+        for text in [
+            b"".as_slice(),
+            b"a/b",
+            b"a b",
+            b"\xc3\xa4",
+            [b'x'; 97].as_slice(),
+        ] {
+            assert!(rt; Name::of(text).is_none());
+        }
+        assert!(rt; Name::of(b"ab") != Name::of(b"ac"));
+    }
+}
