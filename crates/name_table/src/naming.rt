@@ -1,5 +1,5 @@
 //! What a name is, and the type that keeps one.
-ghost use Rattle.std.specs.Prelude.{◌≡◌, ◌↔◌, IsTrue, SomeIff};
+ghost use Rattle.std.specs.Prelude.{◌≡◌, IsTrue, SomeIff};
 ghost use Rattle.std.specs.List.{list_all};
 ghost use Rattle.name_table.specs.Name.{is_name_byte, is_name};
 
