@@ -48,6 +48,7 @@ impl Book for Counter {
     ghost use Rattle.turn_clients.specs.Same.{same_events};
 
     type Opening = Start;
+
     type Event = Add;
 
     ghost opening = { start_of };
