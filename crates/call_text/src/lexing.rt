@@ -2,7 +2,7 @@
 ghost use Rattle.std.specs.Prelude.{◌≡◌, IsTrue, IfOk, IfSome, map, option_copied, ◌^◌, true, nat_lt, if◌then◌else◌};
 ghost use Rattle.std.specs.List.{list_all};
 ghost use Rattle.std.specs.Option.{option_map};
-ghost use Rattle.call_text.specs.Words.{lines, words, is_blank, is_word, is_digit, is_line_byte, is_decimal, number, value_of, is_lane_byte, is_lane, lane_of, bytes_of};
+ghost use Rattle.call_text.specs.Words.{lines, words, is_blank, is_digit, is_line_byte, is_decimal, number, value_of, is_lane_byte, is_lane, lane_of, bytes_of};
 
 use hex::FromHexError;
 use std::alloc::{AllocError, Global};

@@ -7,6 +7,8 @@ mod lexing;
 mod printing;
 mod reading;
 mod script;
+#[cfg(test)]
+mod tests;
 
 pub use faults::{ScriptErr, ScriptFault, ScriptKind};
 pub use printing::{places_line, reply_line};

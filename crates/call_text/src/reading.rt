@@ -1,6 +1,5 @@
 //! How a script is read: line by line, each once.
-ghost use Rattle.std.specs.Prelude.{◌≡◌, ◌+◌, ◌<◌, ◌≤◌, ◌^◌, ◌∷◌, ◌++◌, [], map, IsTrue, OnOk, option_copied, bytes_eq, IfOk, IfErr, IfSome};
-ghost use Rattle.std.specs.List.{list_all};
+ghost use Rattle.std.specs.Prelude.{◌≡◌, ◌∷◌, [], map, IsTrue, OnOk, option_copied, bytes_eq, IfOk, IfErr, IfSome};
 ghost use Rattle.call_text.specs.Words.{is_lane};
 ghost use Rattle.call_text.specs.Scripts.{with_request, is_only_lane, add_call, lane_line, word_line, is_past_limit, read_line, read_script};
 ghost use Rattle.call_text.specs.Building.{built, Makes, HasRoom, IsLanePlace};
