@@ -1,0 +1,3 @@
+pub mod Paired
+pub mod Changes
+pub mod Agree
