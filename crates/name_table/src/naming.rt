@@ -1,5 +1,5 @@
 //! What a name is, and the type that keeps one.
-ghost use Rattle.std.specs.Prelude.{◌≡◌, ◌↔◌, IsTrue, SomeIff};
+ghost use Rattle.std.specs.Prelude.{◌≡◌, IsTrue, SomeIff};
 ghost use Rattle.std.specs.List.{list_all};
 ghost use Rattle.name_table.specs.Name.{is_name_byte, is_name};
 
@@ -101,4 +101,29 @@ impl Eq for Name {
     ghost use Rattle.std.specs.Cmp.Lexicographic.{nat_list_eq_equiv};
 
     ghost laws = { nat_list_eq_equiv };
+}
+
+#[cfg(test)]
+mod tests {
+    use super::*;
+
+    #[test]
+    fn names_keep_the_limit(rt: HostRuntime) {
+        for text in [b"a".as_slice(), b"Log-2.old_Z9", [b'x'; 96].as_slice()] {
+            let name = Name::of(text).expect(&rt, "a name");
+            assert!(rt; name.as_slice() == text);
+            let copy = name;
+            assert!(rt; name == copy);
+        }
+        for text in [
+            b"".as_slice(),
+            b"a/b",
+            b"a b",
+            b"\xc3\xa4",
+            [b'x'; 97].as_slice(),
+        ] {
+            assert!(rt; Name::of(text).is_none());
+        }
+        assert!(rt; Name::of(b"ab") != Name::of(b"ac"));
+    }
 }

@@ -45,3 +45,16 @@ impl Word {
         &self.bytes[..self.len]
     }
 }
+
+#[cfg(test)]
+mod tests {
+    use super::*;
+
+    #[test]
+    fn words_have_up_to_128_bytes(rt: HostRuntime) {
+        let longest = [b'/'; 128];
+        let word = Word::of(&longest).expect(&rt, "a word");
+        assert!(rt; word.as_slice() == longest.as_slice());
+        assert!(rt; Word::of(&[b'/'; 129]).is_none());
+    }
+}

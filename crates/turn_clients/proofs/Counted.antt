@@ -11,7 +11,7 @@ use Rattle.turn_clients.specs.declared.counter.Add.{Add}
 use Rattle.turn_clients.specs.declared.counter.Start.{Start}
 use Rattle.turn_clients.specs.declared.counter.Counter.{Counter}
 
-sum_end : (xs : List Add) (x : Add) → sum_of (xs ++ x ∷ []) ≡ sum_of xs + x.amount
+pub sum_end : (xs : List Add) (x : Add) → sum_of (xs ++ x ∷ []) ≡ sum_of xs + x.amount
 sum_end [] x = omega arith
 sum_end (y ∷ xs) x = let i = sum_end xs x in omega arith
 

@@ -1,5 +1,5 @@
--- What a counter stands for.
-use Rattle.std.specs.Prelude.{◌≡◌, ℕ, ◌+◌, ◌%◌, ◌^◌, false, List, [], ◌∷◌, ◌++◌, map, length}
+-- What a counter stands for: its total and its count of additions follow from a history of additions.
+use Rattle.std.specs.Prelude.{◌≡◌, ℕ, ◌+◌, ◌%◌, ◌^◌, false, List, [], ◌∷◌, ◌++◌, length}
 use Rattle.turn_cell.specs.declared.book.Entry.{Entry}
 use Rattle.turn_cell.specs.declared.view.View.{View}
 use Rattle.turn_cell.specs.History.{entry}
@@ -19,8 +19,12 @@ abbrev pub sum_of : List Add → ℕ
 sum_of [] = 0
 sum_of (x ∷ xs) = x.amount + sum_of xs
 
+-- the total after a history
+abbrev pub total_at : Start → List (Entry Add) → ℕ
+total_at o h = (o.total + sum_of (events_of h)) % 2 ^ 64
+
 abbrev pub Stands : Counter → Start → List (Entry Add) → Type 0
-Stands c o h = (c.past.value ≡ events_of h) × (c.made ≡ (o.made + length h) % 2 ^ 64) × (c.total ≡ (o.total + sum_of (events_of h)) % 2 ^ 64)
+Stands c o h = (c.past.value ≡ events_of h) × (c.made ≡ (o.made + length h) % 2 ^ 64) × (c.total ≡ total_at o h)
 
 -- an actor is acted by the pass of its number
 abbrev pub ActsAs : Start → ℕ → Add → Type 0

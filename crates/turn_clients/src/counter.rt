@@ -1,4 +1,4 @@
-//! The book.
+//! The book: a counter.
 ghost use Rattle.std.specs.Prelude.{◌≡◌, ℕ, ◌++◌, ◌∷◌, [], List};
 ghost use Rattle.turn_cell.specs.History.{entry};
 ghost use Rattle.turn_cell.specs.declared.book.Entry.{Entry};
@@ -15,18 +15,23 @@ pub struct Add {
     pub amount: u64,
 }
 
+/// What a counter starts from: its total, and how many additions it has counted, both modulo 2^64.
 pub struct Start {
     pub total: u64,
     pub made: u64,
 }
 
+/// A counter that actors add to. Its sums are modulo 2^64.
 #[derive(Drop)]
 pub struct Counter {
     pub total: u64,
+    /// How many additions were made.
     pub made: u64,
+    /// The additions since the opening, which only clauses see.
     pub past: Note<LinkedList<Add>>,
 }
 
+// The past with one addition more, of an actor and an amount.
 fn longer(past: &Note<LinkedList<Add>>, new: &(u64, u64)) -> Note<LinkedList<Add>>
     ensures { result.value ≡ past.now.value ++ adding new.now.0 new.now.1 ∷ [] }
 {
@@ -34,6 +39,7 @@ fn longer(past: &Note<LinkedList<Add>>, new: &(u64, u64)) -> Note<LinkedList<Add
 }
 
 impl Counter {
+    /// Adds an amount in the name of an actor.
     pub fn add(&mut self, actor: u64, amount: u64)
         ensures { (o : Start) (h : List (Entry Add)) (n : ℕ) → Stands self.old o h → Stands self.new o (h ++ entry n (adding actor amount) ∷ []) }
     {
@@ -48,6 +54,7 @@ impl Book for Counter {
     ghost use Rattle.turn_clients.specs.Same.{same_events};
 
     type Opening = Start;
+
     type Event = Add;
 
     ghost opening = { start_of };
@@ -65,13 +72,14 @@ impl Book for Counter {
     }
 }
 
+// No past.
 fn none(_total: u64) -> Note<LinkedList<Add>>
     ensures { result.value ≡ [] }
 {
     Note::of(&(), &())
 }
 
-/// A counter at a total, with no event.
+/// A counter at a total, with no addition made yet.
 pub fn empty(total: u64) -> Counter
     ensures { (result.total ≡ total) × (result.made ≡ 0) × (result.past.value ≡ []) }
 {

@@ -4,9 +4,9 @@ ghost use Rattle.turn_clients.specs.Crew.{IsReady, IsDone};
 ghost use Rattle.turn_clients.specs.Counting.{start_of};
 ghost use Rattle.turn_clients.specs.declared.job.Job.{Job};
 
+use crate::add::add_seated;
 use crate::counter::Counter;
 use crate::job::Job;
-use crate::add::add_seated;
 use std::sync::Wait;
 use std::thread;
 use std::thread::Threads;

@@ -5,8 +5,14 @@ mod add;
 mod counter;
 mod crew;
 mod job;
+mod pair;
+mod raise;
+#[cfg(test)]
+mod tests;
 
 pub use add::{add_once, add_seated};
 pub use counter::{Add, Counter, Start, empty};
 pub use crew::{run_all, run_job};
 pub use job::Job;
+pub use pair::two;
+pub use raise::{raise_alone, raise_once, raise_seated};

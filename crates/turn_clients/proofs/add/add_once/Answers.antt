@@ -10,4 +10,4 @@ give-requires-clause-stands g c =
 pub returns-clause-made : goal.returns-clause-made
 returns-clause-made g c =
     one_made (g.K.Desk.view c.args.desk.now) (g.K.Desk.view c.take.new.self) _ (adding c.args.actor c.args.amount) c.take.ensures.seen
-        (c.give.ensures.seen _ (c.add.ensures _ _ _ c.in_ok-counter.ensures.ok.1) (inr (adding c.args.actor c.args.amount, refl)))
+    (c.give.ensures.seen _ (c.add.ensures _ _ _ c.in_ok-counter.ensures.ok.1) (inr (adding c.args.actor c.args.amount, refl)))

@@ -1,0 +1,5 @@
+pub mod Answers
+pub mod Transcripts
+pub mod Statuses
+pub mod Top
+pub mod Refusals

@@ -1,0 +1,159 @@
+use crate::plain::Plain;
+use crate::{Status, stack_main, stack_quiet};
+use edge_io::{Bytes, MemRoom, MemSink, Text};
+use plain_files::{Call, Reply, Word};
+use std::alloc::{AllocError, Global};
+use std::test::Fail;
+
+const GAP: &str = "a: create f\na: write f 4094 text:hello\na: stat f\na: read f 4090 20\n";
+
+const GAP_TRANSCRIPT: &[u8] =
+    b"#1 a.1 id 1\n#2 a.2 ok\n#3 a.3 len 4099\n#4 a.4 data 0000000068656c6c6f\nplaces host=0 drive=0 reads=0 writes=0\n";
+
+// A room that holds a script under the name S.
+fn room_of(alloc: Global, script: &str, fail_reads: Vec<u64>) -> Result<MemRoom, AllocError> {
+    let name = Text::new(String::from_str(alloc, "S")?);
+    let bytes = Bytes::new(script.as_bytes().to_vec(alloc)?);
+    let files = vec![in alloc; (name, bytes)]?;
+    Ok(MemRoom::new(files, fail_reads, Vec::new(alloc)))
+}
+
+fn words_of(alloc: Global, line: &str) -> Result<Vec<String>, AllocError> {
+    let mut words = Vec::new(alloc);
+    for word in line.split(' ') {
+        words.push(String::from_str(alloc, word)?)?;
+    }
+    Ok(words)
+}
+
+// The status and the print of some words over a room with a script, where some writes fail.
+fn told(
+    alloc: Global,
+    line: &str,
+    script: &str,
+    fail: Vec<u64>,
+) -> Result<(Status, MemSink), AllocError> {
+    let words = words_of(alloc, line)?;
+    let mut room = room_of(alloc, script, Vec::new(alloc))?;
+    let mut out = MemSink::new(alloc, 4096, fail)?;
+    let status = stack_quiet(alloc, &words, &mut room, &mut out);
+    Ok((status, out))
+}
+
+#[test]
+fn scripts_give_their_transcripts(rt: HostRuntime) -> Result<(), Fail> {
+    let alloc = rt.alloc();
+    let empty = b"places host=0 drive=0 reads=0 writes=0\n".as_slice();
+    let no_bytes =
+        b"#1 a.1 id 1\n#2 a.2 ok\n#3 a.3 len 0\nplaces host=0 drive=0 reads=0 writes=0\n".as_slice();
+    let limits =
+        "a: create f\na: write f 4094 text:hello\na: stat f\na: read f 4090 20\na: read f 4099 10\na: read f 5000 1\n; a comment\n\na: read f 18446744073709551615 1\na: read f 0 262145\na: write f 268435455 text:x\na: write f 268435456 text:x\na: write f 268435456 hex:\na: write f 268435457 hex:\na: stat f";
+    let limits_transcript =
+        b"#1 a.1 id 1\n#2 a.2 ok\n#3 a.3 len 4099\n#4 a.4 data 0000000068656c6c6f\n#5 a.5 data -\n#6 a.6 data -\n#7 a.7 data -\n#8 a.8 toolong\n#9 a.9 nospace\n#10 a.10 toobig\n#11 a.11 ok\n#12 a.12 toobig\n#13 a.13 len 4099\nplaces host=0 drive=0 reads=0 writes=0\n".as_slice();
+    let names =
+        "a: create f\na: create f\na: create a/b\na: open f\na: create g\na: open g\na: open h\na: write h 0 hex:00\n";
+    let names_transcript =
+        b"#1 a.1 id 1\n#2 a.2 exists\n#3 a.3 badname\n#4 a.4 id 1\n#5 a.5 id 2\n#6 a.6 id 2\n#7 a.7 nofile\n#8 a.8 nofile\nplaces host=0 drive=0 reads=0 writes=0\n".as_slice();
+    for (script, transcript) in [
+        ("", empty),
+        (GAP, GAP_TRANSCRIPT),
+        ("a: create f\na: write f 100 hex:\na: stat f\n", no_bytes),
+        (limits, limits_transcript),
+        (names, names_transcript),
+    ] {
+        let (status, out) = told(alloc, "solo - S -", script, Vec::new(alloc))?;
+        assert_eq!(rt; status, Status::Ok, "at {script}");
+        assert!(rt; out.bytes() == transcript, "at {script}");
+    }
+    Ok(())
+}
+
+#[test]
+fn refusals_have_their_last_lines(rt: HostRuntime) -> Result<(), Fail> {
+    let alloc = rt.alloc();
+    for (line, script, status, last) in [
+        ("solo - S", "", Status::Usage, "usage\n"),
+        ("solo - --S -", "", Status::Usage, "usage\n"),
+        ("solo img S -", "", Status::Usage, "usage\n"),
+        ("solo - S - -", "", Status::Usage, "usage\n"),
+        ("solo - none -", "", Status::Absent, "absent none\n"),
+        (
+            "solo - S -",
+            "a: jump f\n",
+            Status::BadInput,
+            "badscript unbuilt 1\n",
+        ),
+        (
+            "solo - S -",
+            "a: stat f\n; b\nb: stat f\n",
+            Status::BadInput,
+            "badscript unbuilt 3\n",
+        ),
+    ] {
+        let (answer, out) = told(alloc, line, script, Vec::new(alloc))?;
+        assert_eq!(rt; answer, status, "at {line}");
+        assert!(rt; out.bytes() == last.as_bytes(), "at {line}");
+    }
+    Ok(())
+}
+
+#[test]
+fn a_failed_read_is_told(rt: HostRuntime) -> Result<(), Fail> {
+    let alloc = rt.alloc();
+    let words = words_of(alloc, "solo - S -")?;
+    let mut room = room_of(alloc, GAP, vec![in alloc; 1]?)?;
+    let mut out = MemSink::new(alloc, 4096, Vec::new(alloc))?;
+    let status = stack_main(alloc, &words, &mut room, &mut out);
+    assert_eq!(rt; status, Status::ReadFault);
+    assert_eq!(rt; out.bytes(), b"readfault S\n".as_slice());
+    let status = stack_main(alloc, &words, &mut room, &mut out);
+    assert_eq!(rt; status, Status::Ok);
+    assert_eq!(rt; status.code(), 0);
+    Ok(())
+}
+
+#[test]
+fn a_failed_write_leaves_a_front(rt: HostRuntime) -> Result<(), Fail> {
+    let alloc = rt.alloc();
+    let (status, out) = told(alloc, "solo - S -", GAP, vec![in alloc; 1]?)?;
+    assert_eq!(rt; status, Status::WriteFault);
+    assert_eq!(rt; out.bytes(), b"".as_slice());
+    let (status, out) = told(alloc, "solo - S", GAP, vec![in alloc; 1]?)?;
+    assert_eq!(rt; status, Status::Usage);
+    assert_eq!(rt; out.bytes(), b"".as_slice());
+    for room in 0..GAP_TRANSCRIPT.len() {
+        let words = words_of(alloc, "solo - S -")?;
+        let mut held = room_of(alloc, GAP, Vec::new(alloc))?;
+        let mut out = MemSink::new(alloc, room, Vec::new(alloc))?;
+        let status = stack_quiet(alloc, &words, &mut held, &mut out);
+        assert_eq!(rt; status, Status::WriteFault, "at {room}");
+        assert!(rt; out.bytes() == &GAP_TRANSCRIPT[..room], "at {room}");
+    }
+    Ok(())
+}
+
+#[test]
+fn the_machine_answers_calls(rt: HostRuntime) -> Result<(), Fail> {
+    let alloc = rt.alloc();
+    let word = || Word::of(b"f").ok_or("a word");
+    let mut plain = Plain::new(alloc, 2);
+    assert!(rt; matches!(plain.answer(&Call::Create(word()?))?, Reply::Id(1)));
+    let bytes = Bytes::new(vec![in alloc; 7; 4097]?);
+    assert!(rt; matches!(plain.answer(&Call::Write(word()?, 0, bytes))?, Reply::Done));
+    let bytes = Bytes::new(vec![in alloc; 8; 4096]?);
+    assert!(rt;
+        matches!(
+            plain.answer(&Call::Write(word()?, 4097, bytes))?,
+            Reply::NoSpace
+        )
+    );
+    let bytes = Bytes::new(vec![in alloc; 8; 4095]?);
+    assert!(rt;
+        matches!(
+            plain.answer(&Call::Write(word()?, 4097, bytes))?,
+            Reply::Done
+        )
+    );
+    assert!(rt; matches!(plain.answer(&Call::Stat(word()?))?, Reply::Len(8192)));
+    Ok(())
+}
