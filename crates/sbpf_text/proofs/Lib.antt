@@ -11,3 +11,4 @@ pub mod InstructionsBack
 pub mod TextBack
 pub mod CellTexts
 pub mod LeftBehind
+pub mod NeverFar

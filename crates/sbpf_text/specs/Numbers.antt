@@ -11,11 +11,11 @@ use Rattle.sbpf_text.specs.Lexing.{is_digit}
 abbrev pub is_hex_digit : ℕ → Bool
 is_hex_digit b = is_digit b || ((nat_le lower_a b && nat_le b lower_f) || (nat_le upper_a b && nat_le b upper_f))
 
--- of `0` to `9`, of `A` to `F` and of `a` to `f`
+-- 0 to 9 of `0` to `9`, and 10 to 15 of `A` to `F` and of `a` to `f`
 abbrev pub digit_value : ℕ → ℕ
 digit_value b =
-    if nat_le lower_a b then b - 87
-    else if nat_le upper_a b then b - 55
+    if nat_le lower_a b then b - lower_a + 10
+    else if nat_le upper_a b then b - upper_a + 10
     else b - digit_0
 
 abbrev pub with_digit : ℕ → ℕ → ℕ → ℕ

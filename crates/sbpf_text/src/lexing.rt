@@ -15,7 +15,8 @@ pub(crate) fn lines(alloc: Global, text: &[u8]) -> Result<Vec<&[u8]>, AllocError
 pub(crate) fn is_line(line: &[u8]) -> bool
     ensures { result ≡ list_all is_line_byte line.now }
 {
-    line.iter().all(|b| (32 <= *b && *b <= 126) || *b == b'\t')
+    line.iter()
+        .all(|b| (b' ' <= *b && *b <= b'~') || *b == b'\t')
 }
 
 fn find_comment(line: &[u8]) -> Option<usize>
@@ -137,13 +138,13 @@ pub(crate) fn operand_words(alloc: Global, text: &[u8]) -> Result<Vec<&[u8]>, Al
 pub(crate) fn is_digit(b: u8) -> bool
     ensures { result ≡ is_digit b }
 {
-    48 <= b && b <= 57
+    b'0' <= b && b <= b'9'
 }
 
 fn is_letter(b: u8) -> bool
     ensures { result ≡ is_letter b }
 {
-    (65 <= b && b <= 90) || (97 <= b && b <= 122)
+    (b'A' <= b && b <= b'Z') || (b'a' <= b && b <= b'z')
 }
 
 fn is_label_byte(b: u8) -> bool

@@ -11,18 +11,18 @@ use sbpf_insn::Reg;
 fn is_hex_digit(b: u8) -> bool
     ensures { result ≡ is_hex_digit b }
 {
-    is_digit(b) || (97 <= b && b <= 102) || (65 <= b && b <= 70)
+    is_digit(b) || (b'a' <= b && b <= b'f') || (b'A' <= b && b <= b'F')
 }
 
 fn digit_value(b: u8) -> u8
     ensures { result ≡ digit_value b }
 {
-    if 97 <= b {
-        b - 87
-    } else if 65 <= b {
-        b - 55
+    if b'a' <= b {
+        b - b'a' + 10
+    } else if b'A' <= b {
+        b - b'A' + 10
     } else {
-        b.saturating_sub(48)
+        b.saturating_sub(b'0')
     }
 }
 
@@ -213,7 +213,7 @@ pub(crate) fn register(word: &[u8]) -> Option<Reg>
     ensures formed { IfSome result (λ r. IsTrue (is_reg r)) }
 {
     match word {
-        [b'r', d] if is_digit(*d) => Some(Reg { n: *d - 48 }),
+        [b'r', d] if is_digit(*d) => Some(Reg { n: *d - b'0' }),
         [b'r', b'1', b'0'] => Some(Reg { n: 10 }),
         _ => None,
     }
