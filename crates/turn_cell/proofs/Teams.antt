@@ -19,7 +19,7 @@ use Rattle.turn_cell.specs.Rule.{first_view, gone, HasJoined, Knows, IsRoot, IsT
 use Rattle.turn_cell.specs.Steps.{SeesAllowed}
 use Rattle.turn_cell.specs.Teams.{without, left_of, right_of, longer, joined_of, joined_to, IsWhole}
 use Rattle.turn_cell.proofs.Plain.{apart, none_some, at_inside, same_at, starts_shorter, starts_whole, entries_between}
-use Rattle.turn_cell.proofs.Numbers.{once_split, once_joined, has_without}
+use Rattle.turn_cell.proofs.Numbers.{once_whole, once_split, once_joined, has_without}
 use Rattle.turn_cell.proofs.Keeps as k
 
 module _ {A : Type 0} where
@@ -286,6 +286,8 @@ module _ {B O E : Type 0} (stands : B → O → List (Entry E) → Type 0) (may 
         (slot.0, f.4 0 (Some slot.0) (ap (λ hs. get_elem? hs 0) slot.1), subst (stands slot.0 o) (sym all_seen) slot.2),
         record {
           own = subst (λ z. entries_of z v.seen ≡ v.own) zeroth (ap (entries_of v.number) all_seen ∙ q.made);
+          once = once_whole v.split v.joined none_split root.once
+              (λ y has is_first. none_some (ap (λ (z : V). z.opening) (same_at s.views id gone v (subst (λ z. get_elem? s.views z ≡ some gone) (is_first ∙ sym here) (root.kept y has).0) at) ∙ opened));
           joined = λ y has. let kept = root.kept y has in (ap (entries_of y.number) all_seen ∙ kept.1, subst (λ z. StartsWith z y.seen) (sym all_seen) kept.2);
           made = λ e has. dite (ℕ_discrete e.number 0) (λ z. inl z) (λ ne. inr (
               let n : e.number < length s.views = lt_of_not-le (λ l. has_entry r.history has.0 e (subst (λ z. get_elem? z has.0 ≡ some e) all_seen has.1) (r.unmade e.number l)) in

@@ -1,0 +1,10 @@
+use Rattle.std.proofs.Common.{◌≡◌, ◌++◌, take, drop}
+use Rattle.plain_files.specs.declared.calls.Request.{Request}
+use Rattle.call_text.specs.Scripts.{place_of, with_request}
+use Rattle.call_text.proofs.reading.place_of.Given as goal
+
+abbrev pub invariant-loop-i : goal.invariant-loop-i
+invariant-loop-i l = record {
+  place : place_of l.name l.i (drop l.i l.lanes) ≡ place_of l.name 0 l.lanes;
+  with_one : (r : Request) → with_request l.name r l.lanes ≡ take l.i l.lanes ++ with_request l.name r (drop l.i l.lanes);
+}

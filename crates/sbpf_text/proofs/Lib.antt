@@ -1,0 +1,13 @@
+pub mod Cuts
+pub mod DigitValues
+pub mod LabelLaws
+pub mod MnemonicLaws
+pub mod Numerals
+pub mod Cutting
+pub mod OperandsBack
+pub mod MnemonicsFound
+pub mod MnemonicWords
+pub mod InstructionsBack
+pub mod TextBack
+pub mod CellTexts
+pub mod LeftBehind

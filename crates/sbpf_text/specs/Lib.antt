@@ -1,0 +1,12 @@
+pub mod Ascii
+pub mod Lexing
+pub mod Numbers
+pub mod Labels
+pub mod Faults
+pub mod Forms
+pub mod Operands
+pub mod Mnemonics
+pub mod Instructions
+pub mod Asm
+pub mod Print
+pub mod SecondPass
