@@ -18,6 +18,9 @@ impl Model for Bytes {
 }
 
 impl Bytes {
+    ghost use Rattle.std.specs.Borrow.{sem};
+    ghost use Rattle.edge_io.specs.Lending.{LendsBytes};
+
     /// The bytes of a vector. It takes no memory.
     pub fn new(bytes: Vec<u8>) -> Self
         ensures { result ≡ bytes.items }
@@ -33,10 +36,20 @@ impl Bytes {
     }
 
     /// The bytes as a slice.
+    #[inline]
     pub fn as_slice(&self) -> &[u8]
         ensures { result.now ≡ self.now }
     {
         &self.bytes
+    }
+
+    /// The bytes, to be changed in place. Their number stays.
+    #[inline]
+    pub fn as_mut_slice(&mut self) -> &mut [u8]
+        ensures* writes_back { sem 𝓛 (LendsBytes self.entry result) }
+        ensures value { result.now ≡ self.old }
+    {
+        self.bytes.as_mut_slice()
     }
 }
 

@@ -1,0 +1,7 @@
+pub mod Buffers
+pub mod Parts
+pub mod Lending
+pub mod Frames
+pub mod Steps
+pub mod Outcomes
+pub mod Inside

@@ -1,0 +1,16 @@
+//! The interpreter: runs code over the regions of a call, which it reads and writes where they lie.
+#![tactic(auto)]
+
+mod cpu;
+mod interpreter;
+mod number;
+mod pages;
+mod region;
+mod regions;
+mod step;
+#[cfg(test)]
+mod tests;
+
+pub use interpreter::{Outcome, TrapKind, run};
+pub use region::Region;
+pub use regions::{RegionErr, Regions};
