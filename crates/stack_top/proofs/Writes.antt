@@ -12,7 +12,7 @@ use Rattle.plain_files.specs.Plain.{State, Answered, file_of, with_bytes, pages_
 use Rattle.stack_top.specs.Answers.{IsPlace, IsStored}
 
 pub write_stored : (s : State) (name : List ℕ) (off : ℕ) (bytes : List ℕ) (i : ℕ) (file : PlainFile) (new : List PlainFile) → IsPlace name s.files i → slice_get s.files i ≡ Some file → file.sealed ≡ false → length bytes ≤ 262144 → off + length bytes ≤ 2 ^ 28 → IsStored s.files new s.capacity i file (Put file.bytes off bytes) → answer s (Write name off bytes) ≡ record { reply = Done; state = record s { files = new } }
-write_stored s name off bytes i file new place got open_ short within stored =
+write_stored s name off bytes i file new place got unsealed short within stored =
     let found : file_of name s.files ≡ Some file = place.found ∙ got in
     let files : with_bytes name (Put file.bytes off bytes) s.files ≡ new = place.written (Put file.bytes off bytes) file got ∙ sym stored.files in
     let room : pages_of new ≤ s.capacity = stored.room in

@@ -26,7 +26,8 @@ script_of _ = None
 abbrev pub AsksFor : List (List ℕ) → (List ℕ → Type 0) → Type 0
 AsksFor words P = (name : List ℕ) × (script_of words ≡ Some name) × P name
 
--- what a room and a sink show at a moment: the room's names and the sink's bytes, where told, and how often each failed
+-- What a room and a sink show at a moment: the room's names and the sink's bytes, where they tell them, and how often
+-- each of the two has failed.
 pub record Edge : Type 0 where
   pub names : Option Names
   pub room_faults : ℕ
@@ -34,15 +35,24 @@ pub record Edge : Type 0 where
   pub sink_faults : ℕ
 
 abbrev pub edge : Option Names → ℕ → Option (List ℕ) → ℕ → Edge
-edge names room_faults written sink_faults = record { names = names; room_faults = room_faults; written = written; sink_faults = sink_faults }
+edge names room_faults written sink_faults =
+    record { names = names; room_faults = room_faults; written = written; sink_faults = sink_faults }
 
--- The names are told, and these bytes are under the name.
-abbrev pub Holds : Option Names → List ℕ → List ℕ → Type 0
-Holds told name bytes = IsSomeAnd told (λ names. names name ≡ Some bytes)
+-- the room has failed between two moments
+abbrev pub RoomFails : Edge → Edge → Type 0
+RoomFails before after = Rose before.room_faults after.room_faults
 
--- The names are told, and nothing is under the name.
-abbrev pub Misses : Option Names → List ℕ → Type 0
-Misses told name = IsSomeAnd told (λ names. names name ≡ None)
+-- the sink has failed between two moments
+abbrev pub SinkFails : Edge → Edge → Type 0
+SinkFails before after = Rose before.sink_faults after.sink_faults
+
+-- The room tells its names, and these bytes are under the name.
+abbrev pub Holds : Edge → List ℕ → List ℕ → Type 0
+Holds shown name bytes = IsSomeAnd shown.names (λ names. names name ≡ Some bytes)
+
+-- The room tells its names, and nothing is under the name.
+abbrev pub Misses : Edge → List ℕ → Type 0
+Misses shown name = IsSomeAnd shown.names (λ names. names name ≡ None)
 
 -- The text is the transcript of the script that the room held under the name.
 pub record IsServed (told : Option Names) (name text : List ℕ) : Type 0 where
@@ -70,13 +80,13 @@ usage_line = codes "usage\n"
 abbrev pub absent_line : List ℕ → List ℕ
 absent_line name = codes "absent " ++ name ++ codes "\n"
 
-abbrev pub read_line : List ℕ → List ℕ
-read_line name = codes "readfault " ++ name ++ codes "\n"
+abbrev pub read_fault_line : List ℕ → List ℕ
+read_fault_line name = codes "readfault " ++ name ++ codes "\n"
 
 abbrev pub fault_line : ScriptFault → List ℕ
 fault_line fault = codes "badscript " ++ kind_word fault.kind ++ codes " " ++ decimal fault.line ++ codes "\n"
 
--- A line was written, or a front of it and then a write failed.
+-- A line was written, or a front of it and then a write failed. The counts are those of failed writes.
 abbrev pub Tells : Option (List ℕ) → Option (List ℕ) → ℕ → ℕ → List ℕ → Type 0
 Tells old new before now line = (new ≡ appended old line) ⊎ (AppendsFront old new line × Rose before now)
 
@@ -94,7 +104,18 @@ pub record IsCutShort (before after : Edge) (name : List ℕ) : Type 0 where
   pub text : List ℕ
   pub served : IsServed before.names name text
   pub written : AppendsFront before.written after.written text
-  pub failed : Rose before.sink_faults after.sink_faults
+  pub failed : SinkFails before after
+
+-- Nothing is under the name, where the room tells.
+pub record IsAbsent (before after : Edge) (name : List ℕ) : Type 0 where
+  pub lacks : Lacks before.names name
+  pub told : Told before after (absent_line name)
+
+-- Something is under the name, where the room tells, but reading it failed.
+pub record IsUnread (before after : Edge) (name : List ℕ) : Type 0 where
+  pub there : HasName before.names name
+  pub failed : RoomFails before after
+  pub told : Told before after (read_fault_line name)
 
 -- The script under the name was refused at this fault.
 pub record IsRefused (before after : Edge) (name : List ℕ) : Type 0 where
@@ -106,21 +127,25 @@ pub record IsRefused (before after : Edge) (name : List ℕ) : Type 0 where
 abbrev pub Cause : List (List ℕ) → Edge → Edge → Status → Type 0
 Cause words before after status.Ok = AsksFor words (IsDone before after)
 Cause words before after status.Usage = (script_of words ≡ None) × Told before after usage_line
-Cause words before after status.Absent = AsksFor words (λ name. Lacks before.names name × Told before after (absent_line name))
-Cause words before after status.ReadFault = AsksFor words (λ name. HasName before.names name × Rose before.room_faults after.room_faults × Told before after (read_line name))
+Cause words before after status.Absent = AsksFor words (IsAbsent before after)
+Cause words before after status.ReadFault = AsksFor words (IsUnread before after)
 Cause words before after status.BadInput = AsksFor words (IsRefused before after)
 Cause words before after status.WriteFault = AsksFor words (IsCutShort before after)
 Cause words before after status.NoMemory = AsksFor words (λ name. ⊤)
 
--- A status comes wherever its cause holds. Want of memory may come in its place, but not where the words are outside
--- the grammar.
+-- it is this answer, or memory was wanting
+abbrev pub IsUnlessMemory : Status → Status → Type 0
+IsUnlessMemory expected answer = (answer ≡ expected) ⊎ (answer ≡ status.NoMemory)
+
+-- Each status comes wherever its cause holds: words outside the grammar, a name that isn't there, a faulty script that
+-- was read, and a script without a fault where neither the room nor the sink fails.
 pub record IsExact (words : List (List ℕ)) (before after : Edge) (answer : Status) : Type 0 where
   pub usage : script_of words ≡ None → answer ≡ status.Usage
-  pub absent : (name : List ℕ) → script_of words ≡ Some name → Misses before.names name →
-      (answer ≡ status.Absent) ⊎ (answer ≡ status.NoMemory)
-  -- unless the read fails
-  pub faulty : (name bytes : List ℕ) (fault : ScriptFault) → script_of words ≡ Some name → Holds before.names name bytes → read_script bytes ≡ Err fault → (Rose before.room_faults after.room_faults → ⊥) →
-      (answer ≡ status.BadInput) ⊎ (answer ≡ status.NoMemory)
-  -- a valid script is served where nothing fails
-  pub complete : (name bytes : List ℕ) (script : Script) → script_of words ≡ Some name → Holds before.names name bytes → read_script bytes ≡ Ok script → (Rose before.room_faults after.room_faults → ⊥) → (Rose before.sink_faults after.sink_faults → ⊥) →
-      (answer ≡ status.Ok) ⊎ (answer ≡ status.NoMemory)
+  pub absent : (name : List ℕ) → script_of words ≡ Some name →
+      Misses before name → IsUnlessMemory status.Absent answer
+  pub faulty : (name bytes : List ℕ) (fault : ScriptFault) → script_of words ≡ Some name →
+      Holds before name bytes → read_script bytes ≡ Err fault →
+      ¬ RoomFails before after → IsUnlessMemory status.BadInput answer
+  pub complete : (name bytes : List ℕ) (script : Script) → script_of words ≡ Some name →
+      Holds before name bytes → read_script bytes ≡ Ok script →
+      ¬ RoomFails before after → ¬ SinkFails before after → IsUnlessMemory status.Ok answer
