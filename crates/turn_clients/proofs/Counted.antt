@@ -1,12 +1,12 @@
 -- One more amount.
-use Rattle.std.proofs.Common.{◌≡◌, ℕ, ◌+◌, ◌%◌, ◌^◌, List, [], ◌∷◌, ◌++◌, map, length, sym, ap, ◌∙◌, refl, arith, length-append, inr, ◌⊎◌}
+use Rattle.std.proofs.Common.{◌≡◌, ℕ, ◌+◌, ◌%◌, ◌^◌, List, [], ◌∷◌, ◌++◌, length, sym, ap, ◌∙◌, refl, arith, length-append, inr}
 use mathlib.Core.List.{map-append}
 use Rattle.turn_cell.specs.History.{entry, MayMake}
 use Rattle.turn_cell.specs.declared.book.Entry.{Entry}
 use Rattle.turn_cell.specs.declared.view.View.{View}
 use Rattle.turn_cell.specs.Events.{events_of}
 use Rattle.turn_cell.specs.Steps.{Sees, Adds}
-use Rattle.turn_clients.specs.Counting.{Stands, adding, sum_of, ActsAs}
+use Rattle.turn_clients.specs.Counting.{Stands, sum_of, ActsAs}
 use Rattle.turn_clients.specs.declared.counter.Add.{Add}
 use Rattle.turn_clients.specs.declared.counter.Start.{Start}
 use Rattle.turn_clients.specs.declared.counter.Counter.{Counter}

@@ -1,7 +1,6 @@
 -- Jobs for a crew.
-use Rattle.std.specs.Prelude.{◌≡◌, ℕ, false, IsSome}
-use Rattle.std.specs.declared.option.Option.{Option}
-use Rattle.std.specs.declared.option.Option.TheVariants.{None, Some}
+use Rattle.std.specs.Prelude.{◌≡◌, false, IsSome}
+use Rattle.std.specs.declared.option.Option.TheVariants.{Some}
 use Rattle.turn_cell.specs.declared.turn.Turn.{Turn}
 use Rattle.turn_cell.specs.Passes.{view, IsPassOf, IsFree}
 use Rattle.turn_cell.specs.declared.pass.Pass.{Pass}

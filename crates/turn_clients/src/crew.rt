@@ -29,7 +29,8 @@ pub fn run_job<R: Wait>(rt: &R, turn: &Turn<Counter>, job: &mut Job)
 /// All jobs, each in a thread of its own.
 pub fn run_all<R: Threads + Wait + Sync>(rt: &R, turn: &Turn<Counter>, jobs: &mut [Job])
     requires { All (λ j. IsReady turn.now j) jobs.old }
-    ensures { (i : ℕ) (d : Job) → i < length jobs.old → IsDone turn.now (slice_index_or jobs.old i d) (slice_index_or jobs.new i d) }
+    ensures len { length jobs.new ≡ length jobs.old }
+    ensures done { (i : ℕ) (d : Job) → i < length jobs.old → IsDone turn.now (slice_index_or jobs.old i d) (slice_index_or jobs.new i d) }
 {
     if jobs.is_empty() {
         return;

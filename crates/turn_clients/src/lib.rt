@@ -7,6 +7,7 @@ mod crew;
 mod job;
 mod pair;
 mod raise;
+mod share;
 #[cfg(test)]
 mod tests;
 
@@ -16,3 +17,4 @@ pub use crew::{run_all, run_job};
 pub use job::Job;
 pub use pair::two;
 pub use raise::{raise_alone, raise_once, raise_seated};
+pub use share::{ShareErr, add_all, join_all, seat_all};

@@ -2,6 +2,7 @@ use crate::add::{add_once, add_seated};
 use crate::counter::empty;
 use crate::pair::two;
 use crate::raise::{raise_alone, raise_seated};
+use crate::share::add_all;
 use std::test::Fail;
 use turn_cell::{Alone, Closed, NewErr, Seated, Turn};
 
@@ -12,6 +13,16 @@ fn two_threads_add_up(rt: HostRuntime) -> Result<(), Fail> {
     };
     let Closed { book, .. } = closed;
     assert!(rt; book.total == 35 && book.made == 2);
+    Ok(())
+}
+
+#[test]
+fn shares_of_threads_add_up(rt: HostRuntime) -> Result<(), Fail> {
+    let Ok(closed) = add_all(&rt, rt.alloc(), empty(5), &[1, 20, 300, 4000]) else {
+        panic!(rt; "worn or no memory")
+    };
+    let Closed { book, .. } = closed;
+    assert!(rt; book.total == 4326 && book.made == 4);
     Ok(())
 }
 

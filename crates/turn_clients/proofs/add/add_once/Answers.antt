@@ -1,4 +1,4 @@
-use Rattle.std.proofs.Common.{refl, inr, ◌≡◌, ◌∷◌, [], ◌++◌, ap, sym, ◌∙◌}
+use Rattle.std.proofs.Common.{refl, inr}
 use Rattle.turn_cell.proofs.Clients.{gives_one, one_made}
 use Rattle.turn_clients.specs.Counting.{adding, Stands, ActsAs}
 use Rattle.turn_clients.proofs.add.add_once.Goals as goal

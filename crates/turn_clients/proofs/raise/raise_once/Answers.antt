@@ -1,4 +1,4 @@
-use Rattle.std.proofs.Common.{rules, refl, inr, ◌∷◌, [], ◌++◌, ap}
+use Rattle.std.proofs.Common.{rules, refl, inr, ap}
 use Rattle.turn_cell.proofs.Clients.{gives_one, one_made}
 use Rattle.turn_clients.proofs.Raised.{one_one, nearer}
 use Rattle.turn_clients.specs.Counting.{adding, Stands, ActsAs}
