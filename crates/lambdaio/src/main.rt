@@ -3,24 +3,23 @@
 
 use edge_io::{HostRoom, StdSink};
 use stack_top::{Status, stack_main};
-use std::env;
+use std::io::ErrorKind;
 use std::process::ExitCode;
+use std::{env, io};
 
-// The words behind the program's own name; none where they can't be had as text. Nothing where memory
-// is wanting.
-fn words(rt: &HostRuntime) -> Option<Vec<String>> {
-    let mut words = Vec::new(rt.alloc());
-    if let Ok(args) = env::args(rt) {
-        for word in args.skip(1) {
-            words.push(word).ok()?;
-        }
-    }
-    Some(words)
+// The words behind the program's own name.
+fn words(rt: &HostRuntime) -> io::Result<Vec<String>> {
+    Ok(env::args(rt)?.skip(1).collect(rt.alloc())?)
 }
 
 fn main(rt: HostRuntime) -> ExitCode {
-    let Some(words) = words(&rt) else {
-        return ExitCode::from(Status::NoMemory.code());
+    let words = match words(&rt) {
+        Ok(words) => words,
+        Err(e) if e.kind() == ErrorKind::OutOfMemory => {
+            return ExitCode::from(Status::NoMemory.code());
+        }
+        // A word that is no text is outside the grammar, as no word at all is.
+        Err(_) => Vec::new(rt.alloc()),
     };
     let mut room = HostRoom::new(&rt);
     let mut out = StdSink::new(&rt);
