@@ -1,12 +1,10 @@
 -- One more amount.
-use Rattle.std.proofs.Common.{◌≡◌, ℕ, ◌+◌, ◌%◌, ◌^◌, List, [], ◌∷◌, ◌++◌, length, sym, ap, ◌∙◌, refl, arith, length-append, inr}
+use Rattle.std.proofs.Common.{◌≡◌, ℕ, ◌+◌, ◌%◌, ◌^◌, List, [], ◌∷◌, ◌++◌, length, sym, ap, ◌∙◌, arith, length-append}
 use mathlib.Core.List.{map-append}
-use Rattle.turn_cell.specs.History.{entry, MayMake}
+use Rattle.turn_cell.specs.History.{entry}
 use Rattle.turn_cell.specs.declared.book.Entry.{Entry}
-use Rattle.turn_cell.specs.declared.view.View.{View}
 use Rattle.turn_cell.specs.Events.{events_of}
-use Rattle.turn_cell.specs.Steps.{Sees, Adds}
-use Rattle.turn_clients.specs.Counting.{Stands, sum_of, ActsAs}
+use Rattle.turn_clients.specs.Counting.{Stands, sum_of}
 use Rattle.turn_clients.specs.declared.counter.Add.{Add}
 use Rattle.turn_clients.specs.declared.counter.Start.{Start}
 use Rattle.turn_clients.specs.declared.counter.Counter.{Counter}
@@ -27,12 +25,3 @@ one_more c d o h n e s past made total =
       made ∙ (mod_more c.made (o.made + length h) 1 s.1 ∙ ap (λ z. z % 2 ^ 64) (omega arith)),
       total ∙ (mod_more c.total (o.total + sum_of (events_of h)) e.amount s.2 ∙ ap (λ z. z % 2 ^ 64) (let q = ap sum_of events in let r = sum_end (events_of h) e in omega arith)),
     )
-
--- what a desk asks where one event was made since its take
-pub gives_one : (b : Counter) (o : Start) (v w : View Start Add) (e : Add) → Sees v w → Stands b o (w.seen ++ entry w.number e ∷ []) → MayMake ActsAs v.alone o v.number e
-    → (h : List (Entry Add)) × Stands b o h × Adds ActsAs o w h
-gives_one b o v w e sees is can = (
-  w.seen ++ entry w.number e ∷ [],
-  is,
-  inr (e, refl, rw (ap (λ (z : View Start Add). z.alone) sees.0.0, ap (λ (z : View Start Add). z.number) sees.0.0) can),
-)

@@ -1,4 +1,4 @@
--- Jobs for a crew.
+-- Jobs for threads, each with a pass.
 use Rattle.std.specs.Prelude.{◌≡◌, false, IsSome}
 use Rattle.std.specs.declared.option.Option.TheVariants.{Some}
 use Rattle.turn_cell.specs.declared.turn.Turn.{Turn}
@@ -10,9 +10,11 @@ use Rattle.turn_clients.specs.declared.counter.Start.{Start}
 use Rattle.turn_clients.specs.declared.counter.Counter.{Counter}
 use Rattle.turn_clients.specs.declared.job.Job.{Job}
 
+-- the job's pass is free at the turn, and is the actor's
 unfoldable pub IsReady : Turn Counter Start Add → Job → Type 0
 IsReady turn j = (p : Pass Counter Start Add) × (j.pass ≡ Some p) × (IsPassOf start_of turn p × IsFree p × ((view p).alone ≡ false)) × ((view p).number ≡ j.actor)
 
+-- the job's pass is free again, and where the job tells a total it made its one addition
 unfoldable pub IsDone : Turn Counter Start Add → Job → Job → Type 0
 IsDone turn j k =
     (p : Pass Counter Start Add) × (q : Pass Counter Start Add) × (j.pass ≡ Some p) × (k.pass ≡ Some q) × (k.actor ≡ j.actor) × (k.amount ≡ j.amount) × (IsPassOf start_of turn q × IsFree q)

@@ -1,5 +1,5 @@
 //! Work shared out to threads, each with a pass, and gathered again.
-ghost use Rattle.std.specs.Prelude.{◌≡◌, ◌+◌, ◌∷◌, ◌++◌, ◌%◌, ◌^◌, ◌<◌, ℕ, [], length, sum, IfOk};
+ghost use Rattle.std.specs.Prelude.{◌≡◌, ◌+◌, ◌∷◌, ◌++◌, ◌%◌, ◌^◌, ◌<◌, ℕ, [], length, sum, IfOk, IfErr};
 ghost use Rattle.turn_cell.specs.Passes.{view, IsPassOf, IsFree};
 ghost use Rattle.turn_cell.specs.Teams.{IsWhole, left_of, right_of};
 ghost use Rattle.turn_clients.specs.Counting.{Stands, start_of};
@@ -74,6 +74,7 @@ fn join_last(
     requires some { 0 < length jobs.old.items }
     ensures root { IfOk result (λ _. IsGathering turn.now jobs.new.items root.new) }
     ensures served { IfOk result (λ _. Each (IsServed turn.now) jobs.new.items) }
+    ensures worn { IfErr result (λ e. e ≡ ShareErr.Worn) }
     ensures fewer { length jobs.new.items + 1 ≡ length jobs.old.items }
     ensures sum { IfOk result (λ _. all_in jobs.new.items root.new ≡ all_in jobs.old.items root.old) }
 {
@@ -96,6 +97,7 @@ pub fn join_all(
 ) -> Result<(), ShareErr>
     requires root { IsGathering turn.now jobs.old.items root.old }
     requires served { Each (IsServed turn.now) jobs.old.items }
+    ensures worn { IfErr result (λ e. e ≡ ShareErr.Worn) }
     ensures root { IfOk result (λ _. IsGathering turn.now [] root.new) }
     ensures sum { IfOk result (λ _. all_in [] root.new ≡ all_in jobs.old.items root.old) }
 {
