@@ -1,0 +1,4 @@
+pub mod Dies
+pub mod Failures
+pub mod Laws
+pub mod Memory
