@@ -1,1 +1,4 @@
 pub mod Name
+pub mod Hashes
+pub mod Files
+pub mod Inside
