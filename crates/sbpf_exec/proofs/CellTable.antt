@@ -1,5 +1,5 @@
 -- A table of cells: a blank one mirrors any code, and one that mirrors still does with one cell more.
-use Rattle.std.proofs.Common.{◌≡◌, ◌≢◌, ℕ, ◌<◌, ◌≤◌, List, length, Option, Some, None, refl, sym, ap, ◌∙◌, arith, inl, inr, get_or}
+use Rattle.std.proofs.Common.{◌≡◌, ◌≢◌, ℕ, ◌+◌, ◌<◌, ◌≤◌, List, length, Option, Some, None, refl, sym, ap, ◌∙◌, arith, inl, inr, get_or}
 use Rattle.std.proofs.Math.ListN.{set, replicate}
 use Rattle.std.proofs.lemmas.List.{get_or-set_same, get_or-set_other, get_or-replicate, get_or_past, length-replicate}
 use Rattle.std.proofs.lemmas.Bool.{cases_eq, cases_lt}
@@ -7,7 +7,9 @@ use Rattle.std.specs.Prelude.{IfSome, IsTrue}
 use Rattle.sbpf_insn.specs.declared.insn.Insn.{Insn}
 use Rattle.sbpf_insn.specs.Cells.{at_slot}
 use Rattle.sbpf_insn.specs.Table.{is_well_formed}
-use Rattle.sbpf_insn.specs.Machine.{State, Goes, step_at}
+use Rattle.sbpf_insn.specs.Machine.{State, Goes, step_at, step}
+use Rattle.sbpf_exec.specs.Steps.{Reaches}
+use Rattle.sbpf_exec.proofs.Runs.{reach_more}
 use Rattle.sbpf_exec.specs.declared.cells.Cell.{Cell}
 use Rattle.sbpf_exec.specs.declared.cells.Cell.TheVariants.{Other}
 use Rattle.sbpf_exec.specs.FlatCells.{insn_of, is_formed, Stands, Mirrors}
@@ -48,3 +50,8 @@ goes_same (Some i) begins m next stands goes = ap (λ (x : Option Insn). step_at
 pub loaded_is : (o load : Option ℕ) → o ≡ load → IfSome o (λ v. load ≡ Some v)
 loaded_is None load e = tt
 loaded_is (Some v) load e = sym e
+
+-- one step more, by a cell that stands
+pub reach_cell : (o : Option Insn) (code : List Insn) (n k : ℕ) (m mid next : State) → Stands o (at_slot code mid.slot) → k ≡ n + 1 → Reaches n code m mid → step_at o mid ≡ Goes next → Reaches k code m next
+unfolding step
+reach_cell o code n k m mid next stands more reaches goes = reach_more n k code m mid next more reaches (goes_same o (at_slot code mid.slot) mid next stands goes)

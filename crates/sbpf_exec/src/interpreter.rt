@@ -10,9 +10,9 @@ ghost use Rattle.sbpf_exec.specs.Outcomes.{outcome_of, UsesAtMost};
 
 use crate::cells::{CELLS, Cell, flatten};
 use crate::cpu::Cpu;
-use crate::quick::step_fast;
+use crate::quick::quick_run;
 use crate::regions::Regions;
-use crate::step::Ending;
+use crate::step::{Ending, step_once};
 use sbpf_insn::Code;
 
 /// A trap: an access that isn't wholly in one region that allows it, or a local call that would need
@@ -77,9 +77,12 @@ fn run_over(code: &Code, cells: &[Cell; CELLS], regions: &mut Regions, fuel: u64
     let mut slot = 0;
     let mut left = fuel;
     while left > 0 {
+        let reached = quick_run(code, cells, &mut cpu, regions, slot, left);
+        slot = reached.slot;
+        left -= reached.steps;
         left -= 1;
         let used = fuel - left;
-        match step_fast(code, cells, &mut cpu, regions, slot) {
+        match step_once(code, &mut cpu, regions, slot) {
             Ending::Goes(next) => slot = next,
             Ending::Done(r0) => return Outcome::Done { r0, used },
             Ending::Access { address, size } => {
