@@ -361,7 +361,7 @@ pub(crate) fn quick_run(
 {
     let mut slot = first;
     let mut left = fuel;
-    while left > 4096 {
+    while left > CELLS as u64 {
         let reached = straight(code, cells, cpu, regions, slot);
         slot = reached.slot;
         if reached.steps == 0 {
