@@ -1,5 +1,5 @@
 -- What a flat cell stands for. This project's own.
-use Rattle.std.specs.Prelude.{◌≡◌, ℕ, Bool, true, List, Option, Some, None, IsTrue, IfSome, slice_index_or}
+use Rattle.std.specs.Prelude.{◌≡◌, ℕ, Bool, true, List, Option, Some, None, IsTrue, slice_index_or}
 use Rattle.sbpf_insn.specs.declared.insn.Src.TheVariants as src
 use Rattle.sbpf_insn.specs.declared.insn.Size.TheVariants as size
 use Rattle.sbpf_insn.specs.declared.insn.AluOp.TheVariants as op
