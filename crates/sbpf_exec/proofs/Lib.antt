@@ -6,3 +6,4 @@ pub mod Shaped
 pub mod Runs
 pub mod Confined
 pub mod InsideLaws
+pub mod CellTable

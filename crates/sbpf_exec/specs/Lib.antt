@@ -5,3 +5,4 @@ pub mod Frames
 pub mod Steps
 pub mod Outcomes
 pub mod Inside
+pub mod FlatCells

@@ -5,9 +5,12 @@ ghost use Rattle.sbpf_exec.specs.Steps.{state};
 ghost use Rattle.sbpf_exec.specs.Parts.{machine_regions, IsShaped, WritesWithin};
 ghost use Rattle.sbpf_insn.specs.Accepted.{IsAccepted};
 ghost use Rattle.sbpf_exec.specs.Inside.{StaysInside};
+ghost use Rattle.sbpf_exec.specs.FlatCells.{Mirrors};
 ghost use Rattle.sbpf_exec.specs.Outcomes.{outcome_of, UsesAtMost};
 
+use crate::cells::{CELLS, Cell, flatten};
 use crate::cpu::Cpu;
+use crate::quick::quick_run;
 use crate::regions::Regions;
 use crate::step::{Ending, step_once};
 use sbpf_insn::Code;
@@ -54,10 +57,29 @@ pub fn run(code: &Code, regions: &mut Regions, fuel: u64) -> Outcome
     ensures within { WritesWithin regions.old regions.new }
     ensures shaped { IsShaped regions.new }
 {
+    let mut cells = [Cell::Other; CELLS];
+    flatten(code, &mut cells);
+    run_over(code, &cells, regions, fuel)
+}
+
+// The run over a table of the code's cells.
+#[inline(never)]
+fn run_over(code: &Code, cells: &[Cell; CELLS], regions: &mut Regions, fuel: u64) -> Outcome
+    requires mirrors { Mirrors cells.now code.now.insns }
+    requires shaped { IsShaped regions.old }
+    ensures outcome { machine.run code.now.insns (machine_regions regions.old) fuel ≡ outcome_of result (machine_regions regions.new).output }
+    ensures fuel { UsesAtMost fuel result }
+    ensures inside { IsAccepted code.now.insns → StaysInside fuel code.now.insns (machine.start (machine_regions regions.old)) }
+    ensures within { WritesWithin regions.old regions.new }
+    ensures shaped { IsShaped regions.new }
+{
     let mut cpu = Cpu::start();
     let mut slot = 0;
     let mut left = fuel;
     while left > 0 {
+        let reached = quick_run(code, cells, &mut cpu, regions, slot, left);
+        slot = reached.slot;
+        left -= reached.steps;
         left -= 1;
         let used = fuel - left;
         match step_once(code, &mut cpu, regions, slot) {

@@ -1,10 +1,12 @@
 //! The interpreter: runs code over the regions of a call, which it reads and writes where they lie.
 #![tactic(auto)]
 
+mod cells;
 mod cpu;
 mod interpreter;
 mod number;
 mod pages;
+mod quick;
 mod region;
 mod regions;
 mod step;

@@ -1,5 +1,5 @@
 // The five regions of a run.
-ghost use Rattle.std.specs.Prelude.{◌≡◌, ◌+◌, ◌-◌, ◌^◌, ◌<◌, ◌≤◌, min, nat_le, length, take, drop, IsTrue, IsFalse, IfOk, IfErr, Some, None, if◌then◌else◌};
+ghost use Rattle.std.specs.Prelude.{◌≡◌, ◌+◌, ◌-◌, ◌^◌, ◌<◌, ◌≤◌, min, nat_le, length, take, drop, IsTrue, IsFalse, IfOk, IfErr, IfSome, Some, None, if◌then◌else◌};
 ghost use Rattle.std.specs.Borrow.{sem};
 ghost use Rattle.sbpf_insn.specs.Machine.{load, load_writable, store, shaped, number_at, put_number, size_len};
 ghost use Rattle.sbpf_exec.specs.Buffers.{Fits, placed, part};
@@ -127,6 +127,25 @@ impl Regions {
             flat_number(self.param.as_slice(), at, size)
         } else if area == 1 {
             flat_number(&self.context, at, size)
+        } else {
+            None
+        }
+    }
+
+    // The number at an address of the input or of the stack; None where it isn't wholly there, or lies in
+    // another region.
+    #[inline]
+    pub(crate) fn load_near(&self, top: u64, address: u64, size: Size) -> Option<u64>
+        requires { IsShaped self.now }
+        ensures { IfSome result (λ v. load (machine_regions self.now) top address size ≡ Some v) }
+    {
+        let at = (address % 0x1_0000_0000) as usize;
+        let area = address / 0x1_0000_0000;
+        if area == 2 {
+            let len = self.input_len;
+            region_number(&self.input, len, at, size)
+        } else if area == 5 {
+            stack_number(&self.stack, top, at, size)
         } else {
             None
         }

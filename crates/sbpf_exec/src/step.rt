@@ -24,7 +24,7 @@ pub enum Ending {
 }
 
 #[inline]
-fn get(cpu: &Cpu, r: Reg) -> u64
+pub(crate) fn get(cpu: &Cpu, r: Reg) -> u64
     requires { r.n ≤ 10 }
     ensures { result ≡ slice_index cpu.now.registers r.n }
 {
@@ -32,7 +32,7 @@ fn get(cpu: &Cpu, r: Reg) -> u64
 }
 
 #[inline]
-fn set(cpu: &mut Cpu, r: Reg, value: u64)
+pub(crate) fn set(cpu: &mut Cpu, r: Reg, value: u64)
     requires { r.n ≤ 10 }
     ensures { cpu.new ≡ record cpu.old { registers = slice_set cpu.old.registers r.n value } }
 {
@@ -40,14 +40,14 @@ fn set(cpu: &mut Cpu, r: Reg, value: u64)
 }
 
 #[inline]
-fn next(slot: u32, n: u32) -> u32
+pub(crate) fn next(slot: u32, n: u32) -> u32
     ensures { result ≡ after_slot slot n }
 {
     slot.wrapping_add(n)
 }
 
 #[inline]
-fn operand_of(cpu: &Cpu, src: Src) -> u64
+pub(crate) fn operand_of(cpu: &Cpu, src: Src) -> u64
     requires { IsTrue (is_src src) }
     ensures { result ≡ operand cpu.now.registers src }
 {
@@ -58,7 +58,7 @@ fn operand_of(cpu: &Cpu, src: Src) -> u64
 }
 
 #[inline]
-fn address_of(cpu: &Cpu, base: Reg, offset: i16) -> u64
+pub(crate) fn address_of(cpu: &Cpu, base: Reg, offset: i16) -> u64
     requires { base.n ≤ 10 }
     ensures { result ≡ address cpu.now.registers base offset }
 {
@@ -66,14 +66,14 @@ fn address_of(cpu: &Cpu, base: Reg, offset: i16) -> u64
 }
 
 #[inline]
-fn jump_to(slot: u32, offset: i32) -> u32
+pub(crate) fn jump_to(slot: u32, offset: i32) -> u32
     ensures { result ≡ target slot offset }
 {
     slot.wrapping_add(1).wrapping_add(offset.cast_unsigned())
 }
 
 #[inline]
-fn slot_after(taken: bool, slot: u32, offset: i32) -> u32
+pub(crate) fn slot_after(taken: bool, slot: u32, offset: i32) -> u32
     ensures { result ≡ jumped taken slot offset }
 {
     if taken {
@@ -444,7 +444,7 @@ fn act_on(cpu: &mut Cpu, regions: &mut Regions, slot: u32, insn: Insn) -> Ending
 }
 
 /// One step of the code.
-#[inline]
+#[inline(never)]
 #[tactic(auto, using(crate::proofs::Confined::writes_nothing), unfolding(sbpf_insn::specs::Machine::step))]
 pub(crate) fn step_once(code: &Code, cpu: &mut Cpu, regions: &mut Regions, slot: u32) -> Ending
     requires shaped { IsShaped regions.old }

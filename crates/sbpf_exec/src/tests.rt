@@ -33,6 +33,15 @@ const DEEPER: [u8; 8] = *b"\x85\x10\0\0\xff\xff\xff\xff";
 const FRAMES: [u8; 56] =
     *b"\xb7\x06\0\0\x05\0\0\0\x85\x10\0\0\x02\0\0\0\x0f\x60\0\0\0\0\0\0\x95\0\0\0\0\0\0\0\xb7\x06\0\0\x09\0\0\0\xb7\0\0\0\x03\0\0\0\x95\0\0\0\0\0\0\0";
 
+// ldxdw r2, [r1+32]; ldxdw r0, [r2+0]; exit
+const RET: [u8; 24] = *b"\x79\x12\x20\0\0\0\0\0\x79\x20\0\0\0\0\0\0\x95\0\0\0\0\0\0\0";
+
+// ldxdw r2, [r1+0]; ldxdw r3, [r1+8]; ldxdw r4, [r1+16]; add r3, r2;
+// jeq r2, r3, +5; ldxb r5, [r2+0]; add r2, 1; jne r5, 10, -4; add r6, 1; ja -6;
+// stxdw [r4+0], r6; mov r0, 8; exit
+const LINES: [u8; 104] =
+    *b"\x79\x12\0\0\0\0\0\0\x79\x13\x08\0\0\0\0\0\x79\x14\x10\0\0\0\0\0\x0f\x23\0\0\0\0\0\0\x1d\x32\x05\0\0\0\0\0\x71\x25\0\0\0\0\0\0\x07\x02\0\0\x01\0\0\0\x55\x05\xfc\xff\x0a\0\0\0\x07\x06\0\0\x01\0\0\0\x05\0\xfa\xff\0\0\0\0\x7b\x64\0\0\0\0\0\0\xb7\0\0\0\x08\0\0\0\x95\0\0\0\0\0\0\0";
+
 // The outcome of a run over this input, an output of 16 zeros and a parameter of one word, and the
 // output's bytes after it.
 fn run_over(
@@ -104,7 +113,7 @@ fn a_load_across_two_pages_and_one_past_the_end(rt: HostRuntime) -> Result<(), F
         start: 0,
         len: 0,
     };
-    let (outcome, output) = run_over(alloc, &PEEK, paged, 0, 5000, 0x1381, 100)?;
+    let (outcome, output) = run_over(alloc, &PEEK, paged, 0, 5000, 0x1381, 100_000)?;
     assert_eq!(rt; outcome, access(0x2_0000_1381, 4, 5));
     assert_eq!(rt; output.as_slice(), [0; 16].as_slice());
     Ok(())
@@ -153,7 +162,7 @@ fn loads_at_both_edges_of_each_region(rt: HostRuntime) -> Result<(), Fail> {
             (last + 1, false),
         ] {
             let input = Region::Flat(Bytes::new(vec![in alloc; 0; 16]?));
-            let (outcome, _) = run_over(alloc, &READ, input, 0, 16, address, 100)?;
+            let (outcome, _) = run_over(alloc, &READ, input, 0, 16, address, 100_000)?;
             let trapped = outcome == access(address, 2, 3);
             assert_eq!(rt; trapped, !fits, "at {address:x}");
         }
@@ -175,9 +184,42 @@ fn stores_only_to_the_output_and_the_stack(rt: HostRuntime) -> Result<(), Fail> 
         (0xffff_ffff_ffff_fffc, false),
     ] {
         let input = Region::Flat(Bytes::new(vec![in alloc; 0; 16]?));
-        let (outcome, _) = run_over(alloc, &WRITE, input, 0, 16, address, 100)?;
+        let (outcome, _) = run_over(alloc, &WRITE, input, 0, 16, address, 100_000)?;
         let trapped = outcome == access(address, 2, 3);
         assert_eq!(rt; trapped, !fits, "at {address:x}");
+    }
+    Ok(())
+}
+
+#[test]
+fn the_word_of_the_parameter_is_returned(rt: HostRuntime) -> Result<(), Fail> {
+    let alloc = rt.alloc();
+    for word in [4, 5] {
+        let input = Region::Flat(Bytes::new(Vec::new(alloc)));
+        let (outcome, output) = run_over(alloc, &RET, input, 0, 0, word, 10)?;
+        assert_eq!(rt; outcome, Outcome::Done { r0: word, used: 3 });
+        assert_eq!(rt; output.as_slice(), [0; 16].as_slice());
+    }
+    Ok(())
+}
+
+// 96 line feeds use 6 units each, 104 other bytes 4, the beginning 4 and the end 4.
+#[test]
+fn lines_are_counted_with_much_and_with_little_fuel(rt: HostRuntime) -> Result<(), Fail> {
+    let alloc = rt.alloc();
+    for fuel in [1000, 4600, 200_000, 999] {
+        let paged = Region::Paged {
+            pages: pages(alloc, &[10, 97])?,
+            start: 0,
+            len: 0,
+        };
+        let (outcome, output) = run_over(alloc, &LINES, paged, 4000, 200, 0, fuel)?;
+        if fuel == 999 {
+            assert_eq!(rt; outcome, Outcome::Spent);
+        } else {
+            assert_eq!(rt; outcome, Outcome::Done { r0: 8, used: 1000 });
+        }
+        assert_eq!(rt; output.first().copied(), Some(96));
     }
     Ok(())
 }
@@ -188,6 +230,7 @@ fn fuel_is_spent_before_the_next_instruction(rt: HostRuntime) -> Result<(), Fail
     for (code, fuel, outcome) in [
         (SPIN.as_slice(), 0, Outcome::Spent),
         (SPIN.as_slice(), 1000, Outcome::Spent),
+        (SPIN.as_slice(), 10_000, Outcome::Spent),
         (READ.as_slice(), 3, Outcome::Spent),
         (
             READ.as_slice(),

@@ -2,7 +2,7 @@ use Rattle.std.proofs.Common.{◌-◌, ◌≡◌, ◌≤◌}
 use Rattle.sbpf_insn.specs.Machine as machine
 use Rattle.sbpf_exec.specs.Steps.{state}
 use Rattle.sbpf_exec.specs.Parts.{machine_regions, IsShaped, WritesWithin}
-use Rattle.sbpf_exec.proofs.interpreter.run.Given as goal
+use Rattle.sbpf_exec.proofs.interpreter.run_over.Given as goal
 
 abbrev pub invariant-loop-left : goal.invariant-loop-left
 invariant-loop-left l = record {
