@@ -1,0 +1,9 @@
+use Rattle.std.proofs.Common.{◌-◌, ◌≤◌, length}
+use Rattle.extent_map.specs.Owners.{end_of}
+use Rattle.extent_map.proofs.order.end_of.Given as goal
+
+abbrev pub invariant-loop-low : goal.invariant-loop-low
+invariant-loop-low l = record { high : l.high ≤ length l.placed; least : l.low ≤ end_of l.file l.placed; most : end_of l.file l.placed ≤ l.high }
+
+abbrev pub decreases-loop-low : goal.decreases-loop-low
+decreases-loop-low l = l.high - l.low
