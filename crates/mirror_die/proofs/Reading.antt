@@ -1,15 +1,15 @@
 -- A read of a mirror is one of a die, and leaves a mirror.
-use Rattle.std.proofs.Common.{◌≡◌, ℕ, ◌+◌, ◌<◌, ◌≤◌, Bool, true, false, List, [], length, get_or, Option, Some, None, refl, ap, sym, subst, ◌∙◌, arith}
+use Rattle.std.proofs.Common.{◌≡◌, ℕ, ◌<◌, ◌≤◌, Bool, true, false, List, [], length, get_or, Option, Some, None, refl, ap, sym, subst, ◌∙◌, arith}
 use Rattle.std.specs.Prelude.{IfSome, not, ◌||◌, ◌&&◌}
 use Rattle.std.proofs.lemmas.List.{get_or_default}
 use Rattle.flash_die.specs.Dies.{DieView, IsDie, WentRead}
 use Rattle.mirror_die.specs.Freshness.{is_on_first, is_on_second}
-use Rattle.mirror_die.specs.Mirror.{MirrorView, IsMirror, TellsMost, page_of, pages_of, told_pages, seen_of}
-use Rattle.mirror_die.specs.Calls.{Tries, MirrorRead, counted}
+use Rattle.mirror_die.specs.Mirror.{MirrorView, IsMirror, page_of, pages_of, told_pages, seen_of}
+use Rattle.mirror_die.specs.Calls.{Tries, MirrorRead}
 use Rattle.mirror_die.specs.declared.freshness.Fresh.{Fresh}
 use Rattle.mirror_die.specs.declared.freshness.Fresh.TheVariants.{OnBoth, OnFirst, OnSecond}
 use Rattle.mirror_die.proofs.Lists.{get_or-pages_of}
-use Rattle.mirror_die.proofs.Steps.{rises, AreSame, mirror_unchanged, sum_kept, counted_later, counted_rose}
+use Rattle.mirror_die.proofs.Steps.{AreSame, sum_kept, counted_later, counted_rose}
 
 -- what a read leaves of a copy, whether it is tried or not
 pub record Kept (old new : DieView) : Type 0 where
@@ -32,36 +32,6 @@ tries_failed false old page before after new stays = stays.1
 tries_gave : (tried : Bool) (old : DieView) (page : ℕ) (before after : List ℕ) (new : DieView) → Tries tried old page true before after new → (tried ≡ true) × IfSome old.pages (λ pages. after ≡ get_or pages page [])
 tries_gave true old page before after new went = (refl, went.ok refl)
 tries_gave false old page before after new stays = absurd (cc (stays.0))
-
--- where a page was given by no fresh copy, the count of one of them has risen
-read_caused : (fresh : Fresh) (first_gave second_gave : Bool) (first second new_first new_second : DieView) (page : ℕ) (before between after : List ℕ) (faults : ℕ) → Tries (is_on_first fresh) first page first_gave before between new_first → Tries (not first_gave && is_on_second fresh) second page second_gave between after new_second → TellsMost first → TellsMost second → IsDie new_first → IsDie new_second → faults ≤ first.faults + second.faults → counted (first_gave || second_gave) faults ≤ new_first.faults + new_second.faults
-read_caused fresh true second_gave first second new_first new_second page before between after faults f s first_most second_most is_first is_second caused =
-    let a = tries_kept (is_on_first fresh) first page true before between new_first f in
-    let b = tries_kept (not true && is_on_second fresh) second page second_gave between after new_second s in
-    omega (arith, a.later, b.later)
-read_caused fresh false true first second new_first new_second page before between after faults f s first_most second_most is_first is_second caused =
-    let a = tries_kept (is_on_first fresh) first page false before between new_first f in
-    let b = tries_kept (not false && is_on_second fresh) second page true between after new_second s in
-    omega (arith, a.later, b.later)
-read_caused OnBoth false false first second new_first new_second page before between after faults f s first_most second_most is_first is_second caused =
-    let b = tries_kept true second page false between after new_second s in
-    omega (arith, rises first new_first false f.counts refl first_most is_first, b.later)
-read_caused OnFirst false false first second new_first new_second page before between after faults f s first_most second_most is_first is_second caused =
-    let b = tries_kept false second page false between after new_second s in
-    omega (arith, rises first new_first false f.counts refl first_most is_first, b.later)
-read_caused OnSecond false false first second new_first new_second page before between after faults f s first_most second_most is_first is_second caused =
-    let a = tries_kept false first page false before between new_first f in
-    omega (arith, rises second new_second false s.counts refl second_most is_second, a.later)
-
-pub read_keeps : (old new : MirrorView) (page : ℕ) (good : Bool) (before after : List ℕ) → IsMirror old → IsDie new.first → IsDie new.second → MirrorRead old page good before after new → IsMirror new
-read_keeps old new page good before after is first second went =
-    let reads = went.reads in
-    let fresh = get_or old.fresh page OnBoth in
-    let a = tries_kept (is_on_first fresh) old.first page reads.first_gave before reads.between new.first reads.tries_first in
-    let b = tries_kept (not reads.first_gave && is_on_second fresh) old.second page reads.second_gave reads.between after new.second reads.tries_second in
-    let caused : counted (reads.first_gave || reads.second_gave) old.faults ≤ new.first.faults + new.second.faults = read_caused fresh reads.first_gave reads.second_gave old.first old.second new.first new.second page before reads.between after old.faults reads.tries_first reads.tries_second is.first_most is.second_most first second is.caused in
-    let faults : new.faults ≡ counted (reads.first_gave || reads.second_gave) old.faults = went.faults ∙ ap (λ (g : Bool). counted g old.faults) reads.answer in
-    mirror_unchanged old new is a.size b.size a.most b.most a.pages b.pages went.fresh (omega (arith, faults, caused))
 
 -- the first copy's bytes are the page's, where it is fresh there
 pub gave_first : (list : List Fresh) (first second : Option (List (List ℕ))) (page size : ℕ) (after : List ℕ) → page < size → length list ≡ size → IfSome first (λ pages. length pages ≡ size) → IfSome second (λ pages. length pages ≡ size) → is_on_first (get_or list page OnBoth) ≡ true → IfSome first (λ pages. after ≡ get_or pages page []) → IfSome (told_pages list first second) (λ pages. after ≡ get_or pages page [])

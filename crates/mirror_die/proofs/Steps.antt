@@ -96,18 +96,6 @@ told_after old new page now a b first_pages second_pages fresh =
     ∙ ap (λ (p : Option (List (List ℕ))). told_pages (set old.fresh page now) (with_page old.first.pages page a) p) second_pages
     ∙ told_pages-with_page old.fresh old.first.pages old.second.pages page now a b
 
--- a mirror whose copies have been read
-pub mirror_unchanged : (old new : MirrorView) → IsMirror old → new.first.size ≡ old.first.size → new.second.size ≡ old.second.size → new.first.most ≡ old.first.most → new.second.most ≡ old.second.most → new.first.pages ≡ old.first.pages → new.second.pages ≡ old.second.pages → new.fresh ≡ old.fresh → new.faults ≤ new.first.faults + new.second.faults → IsMirror new
-mirror_unchanged old new is first_size second_size first_most second_most first_pages second_pages fresh caused = record {
-  sizes = omega (arith, is.sizes);
-  marks = ap length fresh ∙ is.marks ∙ sym first_size;
-  few = omega (arith, is.few);
-  first_most = still_told old.first new.first first_most is.first_most;
-  second_most = still_told old.second new.second second_most is.second_most;
-  caused = caused;
-  same = λ p q is_first is_second at both. is.same p q (sym first_pages ∙ is_first) (sym second_pages ∙ is_second) at (ap (λ (l : List Fresh). get_or l at OnFirst) (sym fresh) ∙ both);
-}
-
 -- the sum of the bounds stays
 pub sum_kept : (old new : MirrorView) → new.first.most ≡ old.first.most → new.second.most ≡ old.second.most → (seen_of new).most ≡ (seen_of old).most
 sum_kept old new first second = ap (λ (m : Option ℕ). sum_of m new.second.most) first ∙ ap (λ (m : Option ℕ). sum_of old.first.most m) second
