@@ -1,4 +1,4 @@
-//! λ-IO: a file tool over a simulated drive. `solo - SCRIPT -` prints what the calls of a script answer.
+//! λ-IO: a file tool over a simulated drive, with functions. The top call does all that its words ask for.
 #![tactic(auto)]
 
 use edge_io::{HostRoom, StdSink};

@@ -1,125 +1,97 @@
--- Where each status has its cause, it comes wherever its cause holds.
-use Rattle.std.proofs.Common.{◌≡◌, inl, inr, ℕ, List, Option, Some, None, Ok, Err, ap, subst, ◌∙◌, sym, refl}
-use Rattle.std.specs.Prelude.{IsSome, IsSomeAnd}
-use Rattle.edge_io.specs.Edges.{Names, IsUnder, Lacks, HasName}
-use Rattle.call_text.specs.declared.script.Script.{Script}
-use Rattle.call_text.specs.declared.faults.ScriptFault.{ScriptFault}
-use Rattle.call_text.specs.Scripts.{read_script}
+-- The cause of each status, from what was decided and done.
+use Rattle.std.proofs.Common.{◌≡◌, inl, inr, ℕ, ◌≤◌, List, Option, Some, None, Err, refl, ap, ◌∙◌, sym, subst}
+use Rattle.std.specs.Prelude.{IsSome}
+use Rattle.edge_io.specs.Edges.{appended}
+use Rattle.stack_top.specs.declared.acts.Act.{Act}
+use Rattle.stack_top.specs.declared.refusal.Refusal.{Refusal}
+use Rattle.stack_top.specs.declared.refusal.Refusal.TheVariants as refused
 use Rattle.stack_top.specs.declared.status.Status.{Status}
 use Rattle.stack_top.specs.declared.status.Status.TheVariants as status
-use Rattle.stack_top.specs.Top.{script_of, AsksFor, Edge, IsFaulty, Holds, Misses, Cause, IsExact, IsDone, IsCutShort, IsAbsent, IsUnread, IsRefused, IsServed, IsUnlessMemory, RoomFails, SinkFails}
+use Rattle.stack_top.specs.declared.words.Command.{Command}
+use Rattle.stack_top.specs.Acts.{AreDone, behind, stored, printed}
+use Rattle.stack_top.specs.Commands.{work_of}
+use Rattle.stack_top.specs.Decided.{IsDecided}
+use Rattle.stack_top.specs.Moments.{Edge, Told}
+use Rattle.stack_top.specs.Performed.{IsPerformed}
+use Rattle.stack_top.specs.Refusals.{status_of, refusal_line}
+use Rattle.stack_top.specs.Top.{Cause, IsTold}
+use Rattle.stack_top.specs.Words.{command_of}
+use Rattle.stack_top.specs.Works.{ComesToDo}
+use Rattle.stack_top.proofs.ActsDone.{none_done, nothing_told, fails_since}
 
--- the names are told, and these bytes are under the name
-abbrev HasBytes : Option Names → List ℕ → List ℕ → Type 0
-HasBytes told name bytes = IsSomeAnd told (λ names. names name ≡ Some bytes)
+told_cause : (words : List (List ℕ)) (command : Command) (refusal : Refusal) (before after : Edge) → command_of words ≡ Some command → IsDecided before.names before.room_faults after.room_faults (work_of command) (Err refusal) → after.names ≡ before.names → Told before after (refusal_line refusal) → Cause words before after (status_of refusal)
+told_cause words command (refused.Absent name) before after asked decided names told =
+    (command, asked, record { name = name; wants = decided.0; lacks = decided.1; told = told })
+told_cause words command (refused.ReadFault name) before after asked decided names told =
+    (command, asked, record { name = name; wants = decided.0; there = decided.1; failed = decided.2; told = told })
+told_cause words command (refused.BadText fault) before after asked decided names told =
+    (command, asked, record { refusal = refused.BadText fault; comes = decided; status = refl; told = told })
+told_cause words command (refused.BadObject fault) before after asked decided names told =
+    (command, asked, record { refusal = refused.BadObject fault; comes = decided; status = refl; told = told })
+told_cause words command (refused.BadScript fault) before after asked decided names told =
+    (command, asked, record { refusal = refused.BadScript fault; comes = decided; status = refl; told = told })
+told_cause words command refused.NoMemory before after asked decided names told =
+    (command, asked, inl (none_done before after names (nothing_told before.written after.written before.sink_faults after.sink_faults told)))
 
--- the names are told, and nothing is under the name
-abbrev HasNothing : Option Names → List ℕ → Type 0
-HasNothing told name = IsSomeAnd told (λ names. names name ≡ None)
+is_some_parts : {A : Type 0} → (o : Option A) → IsSome o → (x : A) × (o ≡ Some x)
+is_some_parts None is = cc
+is_some_parts (Some x) is = (x, refl)
 
--- the words ask for one script
-one_name : (words : List (List ℕ)) (name other : List ℕ) → script_of words ≡ Some name → script_of words ≡ Some other → name ≡ other
-one_name words name other one two = let e : Some name ≡ Some other = sym one ∙ two in cc
+-- memory was wanting for the command itself
+pub forgotten : (words : List (List ℕ)) (at : Edge) → IsSome (command_of words) → Cause words at at status.NoMemory
+forgotten words at is =
+    let command = is_some_parts (command_of words) is in (command.0, command.1, inl (none_done at at refl refl))
 
-asks_for_none : (words : List (List ℕ)) (P : List ℕ → Type 0) → script_of words ≡ None → AsksFor words P → ⊥
-asks_for_none words P none asks = let e : None ≡ Some asks.0 = sym none ∙ asks.1 in cc
+-- a refusal was told
+pub refusal_cause : (words : List (List ℕ)) (command : Command) (refusal : Refusal) (before after : Edge) (answer : Status) → command_of words ≡ Some command → IsDecided before.names before.room_faults after.room_faults (work_of command) (Err refusal) → after.names ≡ before.names → IsTold before.written after.written before.sink_faults after.sink_faults refusal answer → Cause words before after answer
+refusal_cause words command refusal before after answer asked decided names told =
+    let P : Status → Type 0 = λ s. Cause words before after s in
+    elim told [
+      | inl w ↦ subst P (sym w.0) (told_cause words command refusal before after asked decided names w.1)
+      | inr w ↦ subst P (sym w.0) (command, asked, inl (none_done before after names w.1))
+    ]
 
-at_name : (words : List (List ℕ)) (P : List ℕ → Type 0) (name : List ℕ) → script_of words ≡ Some name → AsksFor words P → P name
-at_name words P name asked asks = subst P (one_name words asks.0 name asks.1 asked) asks.2
-
--- bytes that are held are those under the name
-held_bytes : (told : Option Names) (name bytes other : List ℕ) → HasBytes told name bytes → IsUnder told name other → other ≡ bytes
-held_bytes None name bytes other holds under = absurd holds
-held_bytes (Some names) name bytes other holds under = let e : Some other ≡ Some bytes = sym under ∙ holds in cc
-
-held_lacks : (told : Option Names) (name bytes : List ℕ) → HasBytes told name bytes → Lacks told name → ⊥
-held_lacks None name bytes holds lacks = holds
-held_lacks (Some names) name bytes holds lacks = let e : None ≡ Some bytes = sym lacks ∙ holds in cc
-
-missed_under : (told : Option Names) (name bytes : List ℕ) → HasNothing told name → IsUnder told name bytes → ⊥
-missed_under None name bytes misses under = misses
-missed_under (Some names) name bytes misses under = let e : None ≡ Some bytes = sym misses ∙ under in cc
-
-missed_has : (told : Option Names) (name : List ℕ) → HasNothing told name → HasName told name → ⊥
-missed_has None name misses has = misses
-missed_has (Some names) name misses has =
-    let P : Option (List ℕ) → Type 0 = λ o. IsSome o in
-    no_some (subst P misses has)
-  where
-    no_some : (let none : Option (List ℕ) = None in IsSome none) → ⊥
-    no_some some = cc
-
--- a script and a fault can't both be read
-read_both : (bytes other : List ℕ) (script : Script) (fault : ScriptFault) → other ≡ bytes → read_script other ≡ Ok script → read_script bytes ≡ Err fault → ⊥
-read_both bytes other script fault same ok err = let e : Ok script ≡ Err fault = sym ok ∙ ap read_script same ∙ err in cc
-
-usage_exact : (words : List (List ℕ)) (before after : Edge) (answer : Status) → Cause words before after answer → script_of words ≡ None → answer ≡ status.Usage
-usage_exact words before after status.Ok cause none = absurd (asks_for_none words (IsDone before after) none cause)
-usage_exact words before after status.Usage cause none = refl
-usage_exact words before after status.Absent cause none = absurd (asks_for_none words (IsAbsent before after) none cause)
-usage_exact words before after status.ReadFault cause none = absurd (asks_for_none words (IsUnread before after) none cause)
-usage_exact words before after status.BadInput cause none = absurd (asks_for_none words (IsRefused before after) none cause)
-usage_exact words before after status.WriteFault cause none = absurd (asks_for_none words (IsCutShort before after) none cause)
-usage_exact words before after status.NoMemory cause none = absurd (asks_for_none words _ none cause)
-
-absent_exact : (words : List (List ℕ)) (before after : Edge) (answer : Status) (name : List ℕ) → Cause words before after answer → script_of words ≡ Some name → Misses before name → IsUnlessMemory status.Absent answer
-absent_exact words before after status.Ok name cause asked misses =
-    let served = (at_name words (IsDone before after) name asked cause).served in
-    absurd (missed_under before.names name served.bytes misses served.under)
-absent_exact words before after status.Usage name cause asked misses = let e : None ≡ Some name = sym cause.0 ∙ asked in cc
-absent_exact words before after status.Absent name cause asked misses = inl refl
-absent_exact words before after status.ReadFault name cause asked misses =
-    absurd (missed_has before.names name misses (at_name words (IsUnread before after) name asked cause).there)
-absent_exact words before after status.BadInput name cause asked misses =
-    let faulty = (at_name words (IsRefused before after) name asked cause).faulty in
-    absurd (missed_under before.names name faulty.bytes misses faulty.under)
-absent_exact words before after status.WriteFault name cause asked misses =
-    let served = (at_name words (IsCutShort before after) name asked cause).served in
-    absurd (missed_under before.names name served.bytes misses served.under)
-absent_exact words before after status.NoMemory name cause asked misses = inr refl
-
--- what was served was a script
-not_served : (told : Option Names) (name text bytes : List ℕ) (fault : ScriptFault) → HasBytes told name bytes → read_script bytes ≡ Err fault → IsServed told name text → ⊥
-not_served told name text bytes fault holds read served =
-    read_both bytes served.bytes served.script fault (held_bytes told name bytes served.bytes holds served.under) served.read read
-
-not_faulty : (told : Option Names) (name bytes : List ℕ) (script : Script) (fault : ScriptFault) → HasBytes told name bytes → read_script bytes ≡ Ok script → IsFaulty told name fault → ⊥
-not_faulty told name bytes script fault holds read faulty =
-    read_both faulty.bytes bytes script fault (sym (held_bytes told name bytes faulty.bytes holds faulty.under)) read faulty.read
-
-faulty_exact : (words : List (List ℕ)) (before after : Edge) (answer : Status) (name bytes : List ℕ) (fault : ScriptFault) → Cause words before after answer → script_of words ≡ Some name → Holds before name bytes → read_script bytes ≡ Err fault → ¬ RoomFails before after → IsUnlessMemory status.BadInput answer
-faulty_exact words before after status.Ok name bytes fault cause asked holds read calm =
-    let done = at_name words (IsDone before after) name asked cause in
-    absurd (not_served before.names name done.text bytes fault holds read done.served)
-faulty_exact words before after status.Usage name bytes fault cause asked holds read calm = let e : None ≡ Some name = sym cause.0 ∙ asked in cc
-faulty_exact words before after status.Absent name bytes fault cause asked holds read calm =
-    absurd (held_lacks before.names name bytes holds (at_name words (IsAbsent before after) name asked cause).lacks)
-faulty_exact words before after status.ReadFault name bytes fault cause asked holds read calm = absurd (calm (at_name words (IsUnread before after) name asked cause).failed)
-faulty_exact words before after status.BadInput name bytes fault cause asked holds read calm = inl refl
-faulty_exact words before after status.WriteFault name bytes fault cause asked holds read calm =
-    let cut = at_name words (IsCutShort before after) name asked cause in
-    absurd (not_served before.names name cut.text bytes fault holds read cut.served)
-faulty_exact words before after status.NoMemory name bytes fault cause asked holds read calm = inr refl
-
-complete : (words : List (List ℕ)) (before after : Edge) (answer : Status) (name bytes : List ℕ) (script : Script) → Cause words before after answer → script_of words ≡ Some name → Holds before name bytes → read_script bytes ≡ Ok script → ¬ RoomFails before after → ¬ SinkFails before after → IsUnlessMemory status.Ok answer
-complete words before after status.Ok name bytes script cause asked holds read calm quiet = inl refl
-complete words before after status.Usage name bytes script cause asked holds read calm quiet = let e : None ≡ Some name = sym cause.0 ∙ asked in cc
-complete words before after status.Absent name bytes script cause asked holds read calm quiet =
-    absurd (held_lacks before.names name bytes holds (at_name words (IsAbsent before after) name asked cause).lacks)
-complete words before after status.ReadFault name bytes script cause asked holds read calm quiet = absurd (calm (at_name words (IsUnread before after) name asked cause).failed)
-complete words before after status.BadInput name bytes script cause asked holds read calm quiet =
-    let refused = at_name words (IsRefused before after) name asked cause in
-    absurd (not_faulty before.names name bytes script refused.fault holds read refused.faulty)
-complete words before after status.WriteFault name bytes script cause asked holds read calm quiet =
-    let cut = at_name words (IsCutShort before after) name asked cause in
-    absurd (quiet cut.failed)
-complete words before after status.NoMemory name bytes script cause asked holds read calm quiet = inr refl
-
--- what has its cause is exact
-pub is_exact : (words : List (List ℕ)) (before after : Edge) (answer : Status) → Cause words before after answer → IsExact words before after answer
-is_exact words before after answer cause = record {
-  usage = usage_exact words before after answer cause;
-  absent = λ name. absent_exact words before after answer name cause;
-  faulty = λ name bytes fault. faulty_exact words before after answer name bytes fault cause;
-  complete = λ name bytes script. complete words before after answer name bytes script cause;
+done_since : (before late after : Edge) (acts : List Act) → late.names ≡ before.names → late.written ≡ before.written → AreDone late after acts → AreDone before after acts
+done_since before late after acts names written done = record {
+  stored = done.stored ∙ ap (stored acts) names;
+  printed = done.printed ∙ ap (λ w. appended w (printed acts)) written;
 }
+
+-- acts that a command has come to were done, as far as they were
+pub performed_cause : (words : List (List ℕ)) (command : Command) (acts : List Act) (before late after : Edge) (answer : Status) → command_of words ≡ Some command → ComesToDo before.names (work_of command) acts → late.names ≡ before.names → late.written ≡ before.written → before.room_faults ≤ late.room_faults → before.sink_faults ≤ late.sink_faults → IsPerformed late after acts answer → Cause words before after answer
+performed_cause words command acts before late after status.Ok asked comes names written room sink is =
+    (command, asked, (acts, comes, done_since before late after acts names written is))
+performed_cause words command acts before late after status.WriteFault asked comes names written room sink is = (
+  command,
+  asked,
+  (
+    acts,
+    comes,
+    record {
+      front = is.front;
+      failed = is.failed;
+      left = is.left;
+      whole = is.whole;
+      fails = fails_since (behind is.front before) (behind is.front late) after is.failed
+          (ap (stored is.front) names) (ap (λ w. appended w (printed is.front)) written) room sink is.fails;
+    },
+  ),
+)
+performed_cause words command acts before late after status.NoMemory asked comes names written room sink is = (
+  command,
+  asked,
+  inr (
+    acts,
+    comes,
+    record {
+      front = is.front;
+      left = is.left;
+      whole = is.whole;
+      done = done_since before late after is.front names written is.done;
+    },
+  ),
+)
+performed_cause words command acts before late after status.Usage asked comes names written room sink is = absurd is
+performed_cause words command acts before late after status.Absent asked comes names written room sink is = absurd is
+performed_cause words command acts before late after status.ReadFault asked comes names written room sink is = absurd is
+performed_cause words command acts before late after status.BadInput asked comes names written room sink is = absurd is

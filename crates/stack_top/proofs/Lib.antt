@@ -1,6 +1,10 @@
+pub mod ActsDone
 pub mod Causes
+pub mod Exactness
 pub mod Histories
+pub mod Keeping
 pub mod Places
 pub mod Puts
 pub mod Runs
+pub mod Walks
 pub mod Writes

@@ -1,5 +1,15 @@
 pub mod Answers
 pub mod Transcripts
 pub mod Statuses
-pub mod Top
+pub mod Words
+pub mod Moments
+pub mod Acts
 pub mod Refusals
+pub mod Works
+pub mod Decided
+pub mod Performed
+pub mod Assembling
+pub mod Objects
+pub mod Scripts
+pub mod Commands
+pub mod Top

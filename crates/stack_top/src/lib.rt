@@ -1,12 +1,22 @@
 //! The top call: what the program does with its words, a room and a sink.
 #![tactic(auto)]
 
+mod acts;
+mod assembling;
 mod contents;
+mod deciding;
 mod files;
+mod objects;
+mod performing;
 pub mod plain;
+mod printing;
+mod reading;
+mod refusal;
+mod scripts;
 mod solo;
 mod status;
 mod top;
+mod words;
 
 pub use status::Status;
 pub use top::{stack_main, stack_quiet};

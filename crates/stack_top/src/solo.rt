@@ -40,7 +40,7 @@ fn reply_to(plain: &mut Plain, call: &Call) -> Reply
 }
 
 // The transcript of a script, whose calls are made one after another.
-pub fn solo(alloc: Global, script: &Script) -> Result<String, AllocError>
+pub fn transcript(alloc: Global, script: &Script) -> Result<String, AllocError>
     requires { IsOrdered script.now }
     ensures { IfOk result (λ text. IsTranscript script.now (string_bytes text)) }
 {

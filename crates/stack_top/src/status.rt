@@ -1,5 +1,4 @@
-//! How the program ends, and why a script has no transcript.
-use call_text::ScriptFault;
+//! How the program ends.
 
 /// How the program ends.
 #[derive(Clone, Copy, Debug, PartialEq, Eq)]
@@ -12,9 +11,9 @@ pub enum Status {
     Absent,
     /// A read of the room failed.
     ReadFault,
-    /// The script is wrong.
+    /// The text, the object or the script is wrong.
     BadInput,
-    /// A write to the sink failed.
+    /// A write to the room or to the sink failed.
     WriteFault,
     /// Memory was wanting.
     NoMemory,
@@ -38,13 +37,4 @@ impl Status {
             Status::NoMemory => 10,
         }
     }
-}
-
-// Why a script has no transcript.
-#[derive(Clone, Copy, Debug, PartialEq, Eq)]
-pub enum Refusal {
-    Absent,
-    ReadFault,
-    BadScript(ScriptFault),
-    NoMemory,
 }

@@ -1,6 +1,6 @@
 use crate::plain::Plain;
 use crate::{Status, stack_main, stack_quiet};
-use edge_io::{Bytes, MemRoom, MemSink, Text};
+use edge_io::{Bytes, MemRoom, MemSink, Room, Text};
 use plain_files::{Call, Reply, Word};
 use std::alloc::{AllocError, Global};
 use std::test::Fail;
@@ -10,12 +10,17 @@ const GAP: &str = "a: create f\na: write f 4094 text:hello\na: stat f\na: read f
 const GAP_TRANSCRIPT: &[u8] =
     b"#1 a.1 id 1\n#2 a.2 ok\n#3 a.3 len 4099\n#4 a.4 data 0000000068656c6c6f\nplaces host=0 drive=0 reads=0 writes=0\n";
 
-// A room that holds a script under the name S.
-fn room_of(alloc: Global, script: &str, fail_reads: Vec<u64>) -> Result<MemRoom, AllocError> {
+// A room that holds a text under the name S.
+fn room_of(
+    alloc: Global,
+    text: &[u8],
+    fail_reads: Vec<u64>,
+    fail_writes: Vec<u64>,
+) -> Result<MemRoom, AllocError> {
     let name = Text::new(String::from_str(alloc, "S")?);
-    let bytes = Bytes::new(script.as_bytes().to_vec(alloc)?);
+    let bytes = Bytes::new(text.to_vec(alloc)?);
     let files = vec![in alloc; (name, bytes)]?;
-    Ok(MemRoom::new(files, fail_reads, Vec::new(alloc)))
+    Ok(MemRoom::new(files, fail_reads, fail_writes))
 }
 
 fn words_of(alloc: Global, line: &str) -> Result<Vec<String>, AllocError> {
@@ -26,18 +31,28 @@ fn words_of(alloc: Global, line: &str) -> Result<Vec<String>, AllocError> {
     Ok(words)
 }
 
-// The status and the print of some words over a room with a script, where some writes fail.
-fn told(
+// The status and the print of some words over a room, where some writes to the sink fail.
+fn asked(
     alloc: Global,
     line: &str,
-    script: &str,
+    room: &mut MemRoom,
     fail: Vec<u64>,
 ) -> Result<(Status, MemSink), AllocError> {
     let words = words_of(alloc, line)?;
-    let mut room = room_of(alloc, script, Vec::new(alloc))?;
     let mut out = MemSink::new(alloc, 4096, fail)?;
-    let status = stack_quiet(alloc, &words, &mut room, &mut out);
+    let status = stack_quiet(alloc, &words, room, &mut out);
     Ok((status, out))
+}
+
+// The same over a room with a text, which is let go.
+fn told(
+    alloc: Global,
+    line: &str,
+    text: &[u8],
+    fail: Vec<u64>,
+) -> Result<(Status, MemSink), AllocError> {
+    let mut room = room_of(alloc, text, Vec::new(alloc), Vec::new(alloc))?;
+    asked(alloc, line, &mut room, fail)
 }
 
 #[test]
@@ -61,7 +76,7 @@ fn scripts_give_their_transcripts(rt: HostRuntime) -> Result<(), Fail> {
         (limits, limits_transcript),
         (names, names_transcript),
     ] {
-        let (status, out) = told(alloc, "solo - S -", script, Vec::new(alloc))?;
+        let (status, out) = told(alloc, "solo - S -", script.as_bytes(), Vec::new(alloc))?;
         assert_eq!(rt; status, Status::Ok, "at {script}");
         assert!(rt; out.bytes() == transcript, "at {script}");
     }
@@ -72,6 +87,25 @@ fn scripts_give_their_transcripts(rt: HostRuntime) -> Result<(), Fail> {
 fn refusals_have_their_last_lines(rt: HostRuntime) -> Result<(), Fail> {
     let alloc = rt.alloc();
     for (line, script, status, last) in [
+        ("asm S", "", Status::Usage, "usage\n"),
+        ("asm S --", "", Status::Usage, "usage\n"),
+        ("verify", "", Status::Usage, "usage\n"),
+        ("disasm none", "", Status::Absent, "absent none\n"),
+        (
+            "asm S -",
+            "exit\njump\n",
+            Status::BadInput,
+            "badtext word 2\n",
+        ),
+        ("asm S -", "", Status::BadInput, "badobject empty 0\n"),
+        (
+            "asm S O",
+            "mov r0, 8",
+            Status::BadInput,
+            "badobject fallsoff 0\n",
+        ),
+        ("verify S", "SBO", Status::BadInput, "badobject magic 3\n"),
+        ("disasm S", "SBO1", Status::BadInput, "badobject length 4\n"),
         ("solo - S", "", Status::Usage, "usage\n"),
         ("solo - --S -", "", Status::Usage, "usage\n"),
         ("solo img S -", "", Status::Usage, "usage\n"),
@@ -90,7 +124,7 @@ fn refusals_have_their_last_lines(rt: HostRuntime) -> Result<(), Fail> {
             "badscript unbuilt 3\n",
         ),
     ] {
-        let (answer, out) = told(alloc, line, script, Vec::new(alloc))?;
+        let (answer, out) = told(alloc, line, script.as_bytes(), Vec::new(alloc))?;
         assert_eq!(rt; answer, status, "at {line}");
         assert!(rt; out.bytes() == last.as_bytes(), "at {line}");
     }
@@ -101,7 +135,7 @@ fn refusals_have_their_last_lines(rt: HostRuntime) -> Result<(), Fail> {
 fn a_failed_read_is_told(rt: HostRuntime) -> Result<(), Fail> {
     let alloc = rt.alloc();
     let words = words_of(alloc, "solo - S -")?;
-    let mut room = room_of(alloc, GAP, vec![in alloc; 1]?)?;
+    let mut room = room_of(alloc, GAP.as_bytes(), vec![in alloc; 1]?, Vec::new(alloc))?;
     let mut out = MemSink::new(alloc, 4096, Vec::new(alloc))?;
     let status = stack_main(alloc, &words, &mut room, &mut out);
     assert_eq!(rt; status, Status::ReadFault);
@@ -115,15 +149,15 @@ fn a_failed_read_is_told(rt: HostRuntime) -> Result<(), Fail> {
 #[test]
 fn a_failed_write_leaves_a_front(rt: HostRuntime) -> Result<(), Fail> {
     let alloc = rt.alloc();
-    let (status, out) = told(alloc, "solo - S -", GAP, vec![in alloc; 1]?)?;
+    let (status, out) = told(alloc, "solo - S -", GAP.as_bytes(), vec![in alloc; 1]?)?;
     assert_eq!(rt; status, Status::WriteFault);
     assert_eq!(rt; out.bytes(), b"".as_slice());
-    let (status, out) = told(alloc, "solo - S", GAP, vec![in alloc; 1]?)?;
+    let (status, out) = told(alloc, "solo - S", GAP.as_bytes(), vec![in alloc; 1]?)?;
     assert_eq!(rt; status, Status::Usage);
     assert_eq!(rt; out.bytes(), b"".as_slice());
     for room in 0..GAP_TRANSCRIPT.len() {
         let words = words_of(alloc, "solo - S -")?;
-        let mut held = room_of(alloc, GAP, Vec::new(alloc))?;
+        let mut held = room_of(alloc, GAP.as_bytes(), Vec::new(alloc), Vec::new(alloc))?;
         let mut out = MemSink::new(alloc, room, Vec::new(alloc))?;
         let status = stack_quiet(alloc, &words, &mut held, &mut out);
         assert_eq!(rt; status, Status::WriteFault, "at {room}");
@@ -155,5 +189,69 @@ fn the_machine_answers_calls(rt: HostRuntime) -> Result<(), Fail> {
         )
     );
     assert!(rt; matches!(plain.answer(&Call::Stat(word()?))?, Reply::Len(8192)));
+    Ok(())
+}
+
+const RETURNS_8: &[u8] = b"mov r0, 8\nexit\n";
+
+const RETURNS_8_OBJECT: &[u8] = &[
+    0x53, 0x42, 0x4f, 0x31, 2, 0, 0, 0, 0xb7, 0, 0, 0, 8, 0, 0, 0, 0x95, 0, 0, 0, 0, 0, 0, 0,
+];
+
+#[test]
+fn an_object_is_written_and_shown(rt: HostRuntime) -> Result<(), Fail> {
+    let alloc = rt.alloc();
+    let mut room = room_of(alloc, RETURNS_8, Vec::new(alloc), Vec::new(alloc))?;
+    for (line, print) in [
+        ("asm S -", b"slots 2\n".as_slice()),
+        ("asm S O", b"slots 2\n".as_slice()),
+        ("disasm O", RETURNS_8),
+        ("verify O", b"accepted 2\n".as_slice()),
+    ] {
+        let (status, out) = asked(alloc, line, &mut room, Vec::new(alloc))?;
+        assert_eq!(rt; status, Status::Ok, "at {line}");
+        assert!(rt; out.bytes() == print, "at {line}");
+    }
+    let mut bytes = Vec::new(alloc);
+    assert_eq!(rt; room.read("O", &mut bytes), Ok(()));
+    assert_eq!(rt; bytes.as_slice(), RETURNS_8_OBJECT);
+    Ok(())
+}
+
+#[test]
+fn objects_that_may_not_run(rt: HostRuntime) -> Result<(), Fail> {
+    let alloc = rt.alloc();
+    let into_wide_load = [
+        0x53, 0x42, 0x4f, 0x31, 4, 0, 0, 0, 5, 0, 1, 0, 0, 0, 0, 0, 0x18, 0, 0, 0, 0, 0, 0, 0, 0,
+        0, 0, 0, 0, 0, 0, 0, 0x95, 0, 0, 0, 0, 0, 0, 0,
+    ]
+    .as_slice();
+    for (object, last) in [
+        (into_wide_load, b"badobject middle 0\n".as_slice()),
+        (&RETURNS_8_OBJECT[..16], b"badobject length 16\n".as_slice()),
+        (
+            b"SBO1\x01\0\0\0\x20\0\0\0\0\0\0\0".as_slice(),
+            b"badobject refused 0\n".as_slice(),
+        ),
+    ] {
+        let (status, out) = told(alloc, "verify S", object, Vec::new(alloc))?;
+        assert_eq!(rt; status, Status::BadInput);
+        assert!(rt; out.bytes() == last);
+    }
+    Ok(())
+}
+
+#[test]
+fn a_failed_write_of_the_room_is_told(rt: HostRuntime) -> Result<(), Fail> {
+    let alloc = rt.alloc();
+    let mut room = room_of(alloc, RETURNS_8, Vec::new(alloc), vec![in alloc; 1]?)?;
+    let (status, out) = asked(alloc, "asm S O", &mut room, Vec::new(alloc))?;
+    assert_eq!(rt; status, Status::WriteFault);
+    assert_eq!(rt; out.bytes(), b"writefault O\n".as_slice());
+    let (status, out) = asked(alloc, "asm S O", &mut room, vec![in alloc; 1]?)?;
+    assert_eq!(rt; status, Status::WriteFault);
+    assert_eq!(rt; out.bytes(), b"".as_slice());
+    let (status, _) = asked(alloc, "verify O", &mut room, Vec::new(alloc))?;
+    assert_eq!(rt; status, Status::Ok);
     Ok(())
 }

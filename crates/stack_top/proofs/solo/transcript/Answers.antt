@@ -3,7 +3,7 @@ use Rattle.std.specs.Prelude.{slice_get}
 use Rattle.std.proofs.lemmas.List.{drop_all}
 use Rattle.call_text.specs.declared.script.Lane.{Lane}
 use Rattle.stack_top.proofs.Runs.{IsSoFar, none_made, next_place, one_more, all_made}
-use Rattle.stack_top.proofs.solo.solo.Goals as goal
+use Rattle.stack_top.proofs.solo.transcript.Goals as goal
 
 pub loop-i-init : goal.loop-i-init
 loop-i-init c =
