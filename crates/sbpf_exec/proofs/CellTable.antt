@@ -1,19 +1,14 @@
 -- A table of cells: a blank one mirrors any code, and one that mirrors still does with one cell more.
-use Rattle.std.proofs.Common.{◌≡◌, ◌≢◌, ℕ, ◌+◌, ◌<◌, ◌≤◌, List, length, Option, Some, None, refl, sym, ap, subst, ◌∙◌, arith, inl, inr, get_or}
+use Rattle.std.proofs.Common.{◌≡◌, ℕ, ◌+◌, ◌<◌, List, length, Option, Some, None, refl, sym, ap, ◌∙◌, arith, inl, inr, get_or}
 use Rattle.std.proofs.Math.ListN.{set, replicate}
 use Rattle.std.proofs.lemmas.List.{get_or-set_same, get_or-set_other, get_or-replicate, get_or_past, length-replicate}
 use Rattle.std.proofs.lemmas.Bool.{cases_eq, cases_lt}
-use Rattle.std.specs.Prelude.{IfSome, IsTrue, slice_index}
+use Rattle.std.specs.Prelude.{IfSome, IsTrue}
 use Rattle.sbpf_insn.specs.declared.insn.Insn.{Insn}
 use Rattle.sbpf_insn.specs.Cells.{at_slot}
 use Rattle.sbpf_insn.specs.Table.{is_well_formed}
-use Rattle.sbpf_insn.specs.declared.insn.Size.{Size}
-use Rattle.sbpf_insn.specs.Machine as machine
-use Rattle.sbpf_insn.specs.Machine.{State, Goes, step_at, step, store, stored, store_step, after_slot}
-use Rattle.sbpf_exec.specs.declared.cpu.Cpu.{Cpu}
-use Rattle.sbpf_exec.specs.declared.quick.Advance.{Advance}
-use Rattle.sbpf_exec.specs.declared.quick.Advance.TheVariants.{Next, To, Store, Slow}
-use Rattle.sbpf_exec.specs.Steps.{state, advanced, Reaches}
+use Rattle.sbpf_insn.specs.Machine.{State, Goes, step_at, step}
+use Rattle.sbpf_exec.specs.Steps.{Reaches}
 use Rattle.sbpf_exec.proofs.Runs.{reach_more}
 use Rattle.sbpf_exec.specs.declared.cells.Cell.{Cell}
 use Rattle.sbpf_exec.specs.declared.cells.Cell.TheVariants.{Other}

@@ -1,6 +1,7 @@
 // The quick step: what the instruction of a flat cell does where the run goes on after it.
 ghost use Rattle.std.specs.Prelude.{◌≡◌, ◌<◌, ◌≤◌, IsTrue, IfSome, Some, None, true, slice_index, slice_set};
 ghost use Rattle.sbpf_insn.specs.Table.{is_src};
+ghost use Rattle.sbpf_insn.specs.declared.insn.Src.TheVariants as src;
 ghost use Rattle.sbpf_insn.specs.Machine.{Goes, step_at, operand, address, alu_of, jumped, holds, load_step, store_step};
 ghost use Rattle.sbpf_exec.specs.Steps.{state, advanced, to_store, Reaches};
 ghost use Rattle.sbpf_exec.specs.Parts.{machine_regions, IsShaped, WritesWithin};
@@ -56,6 +57,25 @@ fn jumps(cpu: &Cpu, slot: u32, cond: Cond, dst: Reg, src: Src, offset: i16) -> A
     } else {
         Advance::Next
     }
+}
+
+#[inline]
+fn jump_imm(cpu: &Cpu, slot: u32, cond: Cond, dst: Reg, imm: i32, offset: i16) -> Advance
+    requires dst { dst.n ≤ 10 }
+    ensures no_store { to_store result ≡ None }
+    ensures next { advanced result slot ≡ Some (jumped (holds true cond (slice_index cpu.now.registers dst.n) (operand cpu.now.registers (src.Imm imm))) slot offset) }
+{
+    jumps(cpu, slot, cond, dst, Src::Imm(imm), offset)
+}
+
+#[inline]
+fn jump_reg(cpu: &Cpu, slot: u32, cond: Cond, dst: Reg, from: Reg, offset: i16) -> Advance
+    requires dst { dst.n ≤ 10 }
+    requires from { from.n ≤ 10 }
+    ensures no_store { to_store result ≡ None }
+    ensures next { advanced result slot ≡ Some (jumped (holds true cond (slice_index cpu.now.registers dst.n) (slice_index cpu.now.registers from.n)) slot offset) }
+{
+    jumps(cpu, slot, cond, dst, Src::Reg(from), offset)
 }
 
 // A load; `Slow`, and nothing changes, where it isn't near.
@@ -137,182 +157,28 @@ fn quick_step(cell: &Cell, cpu: &mut Cpu, regions: &Regions, slot: u32) -> Advan
         Cell::AluImm { wide, op, dst, imm } => operates(cpu, wide, op, dst, Src::Imm(imm)),
         Cell::AluReg { wide, op, dst, src } => operates(cpu, wide, op, dst, Src::Reg(src)),
         Cell::Ja { offset } => Advance::To(jump_to(slot, offset as i32)),
-        Cell::JeqImm { dst, offset, imm } => jumps(
-            cpu,
-            slot,
-            Cond::Jeq,
-            dst,
-            Src::Imm(imm),
-            offset,
-        ),
-        Cell::JeqReg { dst, src, offset } => jumps(
-            cpu,
-            slot,
-            Cond::Jeq,
-            dst,
-            Src::Reg(src),
-            offset,
-        ),
-        Cell::JgtImm { dst, offset, imm } => jumps(
-            cpu,
-            slot,
-            Cond::Jgt,
-            dst,
-            Src::Imm(imm),
-            offset,
-        ),
-        Cell::JgtReg { dst, src, offset } => jumps(
-            cpu,
-            slot,
-            Cond::Jgt,
-            dst,
-            Src::Reg(src),
-            offset,
-        ),
-        Cell::JgeImm { dst, offset, imm } => jumps(
-            cpu,
-            slot,
-            Cond::Jge,
-            dst,
-            Src::Imm(imm),
-            offset,
-        ),
-        Cell::JgeReg { dst, src, offset } => jumps(
-            cpu,
-            slot,
-            Cond::Jge,
-            dst,
-            Src::Reg(src),
-            offset,
-        ),
-        Cell::JsetImm { dst, offset, imm } => jumps(
-            cpu,
-            slot,
-            Cond::Jset,
-            dst,
-            Src::Imm(imm),
-            offset,
-        ),
-        Cell::JsetReg { dst, src, offset } => jumps(
-            cpu,
-            slot,
-            Cond::Jset,
-            dst,
-            Src::Reg(src),
-            offset,
-        ),
-        Cell::JneImm { dst, offset, imm } => jumps(
-            cpu,
-            slot,
-            Cond::Jne,
-            dst,
-            Src::Imm(imm),
-            offset,
-        ),
-        Cell::JneReg { dst, src, offset } => jumps(
-            cpu,
-            slot,
-            Cond::Jne,
-            dst,
-            Src::Reg(src),
-            offset,
-        ),
-        Cell::JsgtImm { dst, offset, imm } => jumps(
-            cpu,
-            slot,
-            Cond::Jsgt,
-            dst,
-            Src::Imm(imm),
-            offset,
-        ),
-        Cell::JsgtReg { dst, src, offset } => jumps(
-            cpu,
-            slot,
-            Cond::Jsgt,
-            dst,
-            Src::Reg(src),
-            offset,
-        ),
-        Cell::JsgeImm { dst, offset, imm } => jumps(
-            cpu,
-            slot,
-            Cond::Jsge,
-            dst,
-            Src::Imm(imm),
-            offset,
-        ),
-        Cell::JsgeReg { dst, src, offset } => jumps(
-            cpu,
-            slot,
-            Cond::Jsge,
-            dst,
-            Src::Reg(src),
-            offset,
-        ),
-        Cell::JltImm { dst, offset, imm } => jumps(
-            cpu,
-            slot,
-            Cond::Jlt,
-            dst,
-            Src::Imm(imm),
-            offset,
-        ),
-        Cell::JltReg { dst, src, offset } => jumps(
-            cpu,
-            slot,
-            Cond::Jlt,
-            dst,
-            Src::Reg(src),
-            offset,
-        ),
-        Cell::JleImm { dst, offset, imm } => jumps(
-            cpu,
-            slot,
-            Cond::Jle,
-            dst,
-            Src::Imm(imm),
-            offset,
-        ),
-        Cell::JleReg { dst, src, offset } => jumps(
-            cpu,
-            slot,
-            Cond::Jle,
-            dst,
-            Src::Reg(src),
-            offset,
-        ),
-        Cell::JsltImm { dst, offset, imm } => jumps(
-            cpu,
-            slot,
-            Cond::Jslt,
-            dst,
-            Src::Imm(imm),
-            offset,
-        ),
-        Cell::JsltReg { dst, src, offset } => jumps(
-            cpu,
-            slot,
-            Cond::Jslt,
-            dst,
-            Src::Reg(src),
-            offset,
-        ),
-        Cell::JsleImm { dst, offset, imm } => jumps(
-            cpu,
-            slot,
-            Cond::Jsle,
-            dst,
-            Src::Imm(imm),
-            offset,
-        ),
-        Cell::JsleReg { dst, src, offset } => jumps(
-            cpu,
-            slot,
-            Cond::Jsle,
-            dst,
-            Src::Reg(src),
-            offset,
-        ),
+        Cell::JeqImm { dst, offset, imm } => jump_imm(cpu, slot, Cond::Jeq, dst, imm, offset),
+        Cell::JeqReg { dst, src, offset } => jump_reg(cpu, slot, Cond::Jeq, dst, src, offset),
+        Cell::JgtImm { dst, offset, imm } => jump_imm(cpu, slot, Cond::Jgt, dst, imm, offset),
+        Cell::JgtReg { dst, src, offset } => jump_reg(cpu, slot, Cond::Jgt, dst, src, offset),
+        Cell::JgeImm { dst, offset, imm } => jump_imm(cpu, slot, Cond::Jge, dst, imm, offset),
+        Cell::JgeReg { dst, src, offset } => jump_reg(cpu, slot, Cond::Jge, dst, src, offset),
+        Cell::JsetImm { dst, offset, imm } => jump_imm(cpu, slot, Cond::Jset, dst, imm, offset),
+        Cell::JsetReg { dst, src, offset } => jump_reg(cpu, slot, Cond::Jset, dst, src, offset),
+        Cell::JneImm { dst, offset, imm } => jump_imm(cpu, slot, Cond::Jne, dst, imm, offset),
+        Cell::JneReg { dst, src, offset } => jump_reg(cpu, slot, Cond::Jne, dst, src, offset),
+        Cell::JsgtImm { dst, offset, imm } => jump_imm(cpu, slot, Cond::Jsgt, dst, imm, offset),
+        Cell::JsgtReg { dst, src, offset } => jump_reg(cpu, slot, Cond::Jsgt, dst, src, offset),
+        Cell::JsgeImm { dst, offset, imm } => jump_imm(cpu, slot, Cond::Jsge, dst, imm, offset),
+        Cell::JsgeReg { dst, src, offset } => jump_reg(cpu, slot, Cond::Jsge, dst, src, offset),
+        Cell::JltImm { dst, offset, imm } => jump_imm(cpu, slot, Cond::Jlt, dst, imm, offset),
+        Cell::JltReg { dst, src, offset } => jump_reg(cpu, slot, Cond::Jlt, dst, src, offset),
+        Cell::JleImm { dst, offset, imm } => jump_imm(cpu, slot, Cond::Jle, dst, imm, offset),
+        Cell::JleReg { dst, src, offset } => jump_reg(cpu, slot, Cond::Jle, dst, src, offset),
+        Cell::JsltImm { dst, offset, imm } => jump_imm(cpu, slot, Cond::Jslt, dst, imm, offset),
+        Cell::JsltReg { dst, src, offset } => jump_reg(cpu, slot, Cond::Jslt, dst, src, offset),
+        Cell::JsleImm { dst, offset, imm } => jump_imm(cpu, slot, Cond::Jsle, dst, imm, offset),
+        Cell::JsleReg { dst, src, offset } => jump_reg(cpu, slot, Cond::Jsle, dst, src, offset),
         Cell::LoadB { dst, base, offset } => loads(cpu, regions, slot, Size::B, dst, base, offset),
         Cell::LoadH { dst, base, offset } => loads(cpu, regions, slot, Size::H, dst, base, offset),
         Cell::LoadW { dst, base, offset } => loads(cpu, regions, slot, Size::W, dst, base, offset),
