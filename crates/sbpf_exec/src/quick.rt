@@ -80,7 +80,7 @@ fn jump_reg(cpu: &Cpu, slot: u32, cond: Cond, dst: Reg, from: Reg, offset: i16) 
 
 // A load; `Slow`, and nothing changes, where it isn't near.
 #[inline]
-fn loads(
+fn load(
     cpu: &mut Cpu,
     regions: &Regions,
     slot: u32,
@@ -108,7 +108,7 @@ fn loads(
 
 // A store, which is still to be made.
 #[inline]
-fn stores(cpu: &Cpu, size: Size, base: Reg, offset: i16, src: Src) -> Advance
+fn put(cpu: &Cpu, size: Size, base: Reg, offset: i16, src: Src) -> Advance
     requires base { base.n ≤ 10 }
     requires src { IsTrue (is_src src) }
     ensures { result ≡ Advance.Store size (address cpu.now.registers base offset) (operand cpu.now.registers src) }
@@ -179,38 +179,18 @@ fn quick_step(cell: &Cell, cpu: &mut Cpu, regions: &Regions, slot: u32) -> Advan
         Cell::JsltReg { dst, src, offset } => jump_reg(cpu, slot, Cond::Jslt, dst, src, offset),
         Cell::JsleImm { dst, offset, imm } => jump_imm(cpu, slot, Cond::Jsle, dst, imm, offset),
         Cell::JsleReg { dst, src, offset } => jump_reg(cpu, slot, Cond::Jsle, dst, src, offset),
-        Cell::LoadB { dst, base, offset } => loads(cpu, regions, slot, Size::B, dst, base, offset),
-        Cell::LoadH { dst, base, offset } => loads(cpu, regions, slot, Size::H, dst, base, offset),
-        Cell::LoadW { dst, base, offset } => loads(cpu, regions, slot, Size::W, dst, base, offset),
-        Cell::LoadDw { dst, base, offset } => loads(
-            cpu,
-            regions,
-            slot,
-            Size::Dw,
-            dst,
-            base,
-            offset,
-        ),
-        Cell::StoreImmB { base, offset, imm } => stores(cpu, Size::B, base, offset, Src::Imm(imm)),
-        Cell::StoreRegB { base, src, offset } => stores(cpu, Size::B, base, offset, Src::Reg(src)),
-        Cell::StoreImmH { base, offset, imm } => stores(cpu, Size::H, base, offset, Src::Imm(imm)),
-        Cell::StoreRegH { base, src, offset } => stores(cpu, Size::H, base, offset, Src::Reg(src)),
-        Cell::StoreImmW { base, offset, imm } => stores(cpu, Size::W, base, offset, Src::Imm(imm)),
-        Cell::StoreRegW { base, src, offset } => stores(cpu, Size::W, base, offset, Src::Reg(src)),
-        Cell::StoreImmDw { base, offset, imm } => stores(
-            cpu,
-            Size::Dw,
-            base,
-            offset,
-            Src::Imm(imm),
-        ),
-        Cell::StoreRegDw { base, src, offset } => stores(
-            cpu,
-            Size::Dw,
-            base,
-            offset,
-            Src::Reg(src),
-        ),
+        Cell::LoadB { dst, base, offset } => load(cpu, regions, slot, Size::B, dst, base, offset),
+        Cell::LoadH { dst, base, offset } => load(cpu, regions, slot, Size::H, dst, base, offset),
+        Cell::LoadW { dst, base, offset } => load(cpu, regions, slot, Size::W, dst, base, offset),
+        Cell::LoadDw { dst, base, offset } => load(cpu, regions, slot, Size::Dw, dst, base, offset),
+        Cell::StoreImmB { base, offset, imm } => put(cpu, Size::B, base, offset, Src::Imm(imm)),
+        Cell::StoreRegB { base, src, offset } => put(cpu, Size::B, base, offset, Src::Reg(src)),
+        Cell::StoreImmH { base, offset, imm } => put(cpu, Size::H, base, offset, Src::Imm(imm)),
+        Cell::StoreRegH { base, src, offset } => put(cpu, Size::H, base, offset, Src::Reg(src)),
+        Cell::StoreImmW { base, offset, imm } => put(cpu, Size::W, base, offset, Src::Imm(imm)),
+        Cell::StoreRegW { base, src, offset } => put(cpu, Size::W, base, offset, Src::Reg(src)),
+        Cell::StoreImmDw { base, offset, imm } => put(cpu, Size::Dw, base, offset, Src::Imm(imm)),
+        Cell::StoreRegDw { base, src, offset } => put(cpu, Size::Dw, base, offset, Src::Reg(src)),
     }
 }
 
