@@ -1,5 +1,6 @@
 //! Code as flat cells: a variant for each common operation with its kind of operand, so that a step of the
-//! run jumps once. Calls, returns and rare instructions are left to the step of an instruction.
+//! run jumps once. Tests on 32 bits, wide loads, calls, returns and rarer instructions are left to the step
+//! of an instruction.
 ghost use Rattle.std.specs.Prelude.{◌≡◌, true, Some, IfSome};
 ghost use Rattle.sbpf_insn.specs.declared.insn.Insn.TheVariants as insn;
 ghost use Rattle.sbpf_insn.specs.declared.insn.Src.TheVariants as src;
