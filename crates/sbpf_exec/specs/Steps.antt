@@ -2,6 +2,7 @@
 use Rattle.std.specs.Prelude.{◌≡◌, ℕ, ◌+◌, List, Option, Some, None}
 use Rattle.sbpf_insn.specs.Machine as machine
 use Rattle.sbpf_insn.specs.declared.insn.Insn.{Insn}
+use Rattle.sbpf_insn.specs.declared.insn.Size.{Size}
 use Rattle.sbpf_insn.specs.Machine.{State, Next, after_slot, run_from}
 use Rattle.sbpf_exec.specs.declared.cpu.Cpu.{Cpu}
 use Rattle.sbpf_exec.specs.declared.quick.Advance.{Advance}
@@ -27,7 +28,15 @@ OnEnd _ p = p
 abbrev pub advanced : Advance → ℕ → Option ℕ
 advanced advance.Next slot = Some (after_slot slot 1)
 advanced (advance.To to) slot = Some to
+advanced (advance.Store size address value) slot = None
 advanced advance.Slow slot = None
+
+-- what the step has still to store, if it is a store: how much, where and what
+abbrev pub to_store : Advance → Option (Size × ℕ × ℕ)
+to_store advance.Next = None
+to_store (advance.To to) = None
+to_store (advance.Store size address value) = Some (size, address, value)
+to_store advance.Slow = None
 
 -- So many steps of the code lead from one state to another: with so much more fuel, the run from the one
 -- is the run from the other.

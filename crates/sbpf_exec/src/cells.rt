@@ -1,5 +1,6 @@
-//! Code as flat cells: a variant for each operation with its kind of operand, so that a step of the run
-//! jumps once. Operations on 32 bits, stores, calls and rare instructions are left to the step of an instruction.
+//! Code as flat cells: a variant for each common operation with its kind of operand, so that a step of the
+//! run jumps once. Tests on 32 bits, wide loads, calls, returns and rarer instructions are left to the step
+//! of an instruction.
 ghost use Rattle.std.specs.Prelude.{◌≡◌, true, Some, IfSome};
 ghost use Rattle.sbpf_insn.specs.declared.insn.Insn.TheVariants as insn;
 ghost use Rattle.sbpf_insn.specs.declared.insn.Src.TheVariants as src;
@@ -10,57 +11,276 @@ use sbpf_insn::{AluOp, Code, Cond, Insn, Reg, Size, Src};
 /// How many cells a table has: accepted code has no more slots.
 pub(crate) const CELLS: usize = 4096;
 
-/// What begins at a slot: one of these instructions, or `Other`, which says nothing of it.
+/// What begins at a slot: one of these instructions, or `Other`, which says nothing of it. A variant that
+/// is named for its operation works on 64 bits; `AluImm` and `AluReg` have the other operations.
 #[derive(Clone, Copy)]
 pub enum Cell {
     Other,
-    AddImm { dst: Reg, imm: i32 },
-    AddReg { dst: Reg, src: Reg },
-    SubImm { dst: Reg, imm: i32 },
-    SubReg { dst: Reg, src: Reg },
-    MulImm { dst: Reg, imm: i32 },
-    MulReg { dst: Reg, src: Reg },
-    OrImm { dst: Reg, imm: i32 },
-    OrReg { dst: Reg, src: Reg },
-    AndImm { dst: Reg, imm: i32 },
-    AndReg { dst: Reg, src: Reg },
-    LshImm { dst: Reg, imm: i32 },
-    LshReg { dst: Reg, src: Reg },
-    RshImm { dst: Reg, imm: i32 },
-    RshReg { dst: Reg, src: Reg },
-    XorImm { dst: Reg, imm: i32 },
-    XorReg { dst: Reg, src: Reg },
-    MovImm { dst: Reg, imm: i32 },
-    MovReg { dst: Reg, src: Reg },
-    ArshImm { dst: Reg, imm: i32 },
-    ArshReg { dst: Reg, src: Reg },
-    Ja { offset: i16 },
-    JeqImm { dst: Reg, offset: i16, imm: i32 },
-    JeqReg { dst: Reg, src: Reg, offset: i16 },
-    JgtImm { dst: Reg, offset: i16, imm: i32 },
-    JgtReg { dst: Reg, src: Reg, offset: i16 },
-    JgeImm { dst: Reg, offset: i16, imm: i32 },
-    JgeReg { dst: Reg, src: Reg, offset: i16 },
-    JsetImm { dst: Reg, offset: i16, imm: i32 },
-    JsetReg { dst: Reg, src: Reg, offset: i16 },
-    JneImm { dst: Reg, offset: i16, imm: i32 },
-    JneReg { dst: Reg, src: Reg, offset: i16 },
-    JsgtImm { dst: Reg, offset: i16, imm: i32 },
-    JsgtReg { dst: Reg, src: Reg, offset: i16 },
-    JsgeImm { dst: Reg, offset: i16, imm: i32 },
-    JsgeReg { dst: Reg, src: Reg, offset: i16 },
-    JltImm { dst: Reg, offset: i16, imm: i32 },
-    JltReg { dst: Reg, src: Reg, offset: i16 },
-    JleImm { dst: Reg, offset: i16, imm: i32 },
-    JleReg { dst: Reg, src: Reg, offset: i16 },
-    JsltImm { dst: Reg, offset: i16, imm: i32 },
-    JsltReg { dst: Reg, src: Reg, offset: i16 },
-    JsleImm { dst: Reg, offset: i16, imm: i32 },
-    JsleReg { dst: Reg, src: Reg, offset: i16 },
-    LoadB { dst: Reg, base: Reg, offset: i16 },
-    LoadH { dst: Reg, base: Reg, offset: i16 },
-    LoadW { dst: Reg, base: Reg, offset: i16 },
-    LoadDw { dst: Reg, base: Reg, offset: i16 },
+    AddImm {
+        dst: Reg,
+        imm: i32,
+    },
+    AddReg {
+        dst: Reg,
+        src: Reg,
+    },
+    SubImm {
+        dst: Reg,
+        imm: i32,
+    },
+    SubReg {
+        dst: Reg,
+        src: Reg,
+    },
+    MulImm {
+        dst: Reg,
+        imm: i32,
+    },
+    MulReg {
+        dst: Reg,
+        src: Reg,
+    },
+    OrImm {
+        dst: Reg,
+        imm: i32,
+    },
+    OrReg {
+        dst: Reg,
+        src: Reg,
+    },
+    AndImm {
+        dst: Reg,
+        imm: i32,
+    },
+    AndReg {
+        dst: Reg,
+        src: Reg,
+    },
+    LshImm {
+        dst: Reg,
+        imm: i32,
+    },
+    LshReg {
+        dst: Reg,
+        src: Reg,
+    },
+    RshImm {
+        dst: Reg,
+        imm: i32,
+    },
+    RshReg {
+        dst: Reg,
+        src: Reg,
+    },
+    XorImm {
+        dst: Reg,
+        imm: i32,
+    },
+    XorReg {
+        dst: Reg,
+        src: Reg,
+    },
+    MovImm {
+        dst: Reg,
+        imm: i32,
+    },
+    MovReg {
+        dst: Reg,
+        src: Reg,
+    },
+    ArshImm {
+        dst: Reg,
+        imm: i32,
+    },
+    ArshReg {
+        dst: Reg,
+        src: Reg,
+    },
+    AluImm {
+        wide: bool,
+        op: AluOp,
+        dst: Reg,
+        imm: i32,
+    },
+    AluReg {
+        wide: bool,
+        op: AluOp,
+        dst: Reg,
+        src: Reg,
+    },
+    Ja {
+        offset: i16,
+    },
+    JeqImm {
+        dst: Reg,
+        offset: i16,
+        imm: i32,
+    },
+    JeqReg {
+        dst: Reg,
+        src: Reg,
+        offset: i16,
+    },
+    JgtImm {
+        dst: Reg,
+        offset: i16,
+        imm: i32,
+    },
+    JgtReg {
+        dst: Reg,
+        src: Reg,
+        offset: i16,
+    },
+    JgeImm {
+        dst: Reg,
+        offset: i16,
+        imm: i32,
+    },
+    JgeReg {
+        dst: Reg,
+        src: Reg,
+        offset: i16,
+    },
+    JsetImm {
+        dst: Reg,
+        offset: i16,
+        imm: i32,
+    },
+    JsetReg {
+        dst: Reg,
+        src: Reg,
+        offset: i16,
+    },
+    JneImm {
+        dst: Reg,
+        offset: i16,
+        imm: i32,
+    },
+    JneReg {
+        dst: Reg,
+        src: Reg,
+        offset: i16,
+    },
+    JsgtImm {
+        dst: Reg,
+        offset: i16,
+        imm: i32,
+    },
+    JsgtReg {
+        dst: Reg,
+        src: Reg,
+        offset: i16,
+    },
+    JsgeImm {
+        dst: Reg,
+        offset: i16,
+        imm: i32,
+    },
+    JsgeReg {
+        dst: Reg,
+        src: Reg,
+        offset: i16,
+    },
+    JltImm {
+        dst: Reg,
+        offset: i16,
+        imm: i32,
+    },
+    JltReg {
+        dst: Reg,
+        src: Reg,
+        offset: i16,
+    },
+    JleImm {
+        dst: Reg,
+        offset: i16,
+        imm: i32,
+    },
+    JleReg {
+        dst: Reg,
+        src: Reg,
+        offset: i16,
+    },
+    JsltImm {
+        dst: Reg,
+        offset: i16,
+        imm: i32,
+    },
+    JsltReg {
+        dst: Reg,
+        src: Reg,
+        offset: i16,
+    },
+    JsleImm {
+        dst: Reg,
+        offset: i16,
+        imm: i32,
+    },
+    JsleReg {
+        dst: Reg,
+        src: Reg,
+        offset: i16,
+    },
+    LoadB {
+        dst: Reg,
+        base: Reg,
+        offset: i16,
+    },
+    LoadH {
+        dst: Reg,
+        base: Reg,
+        offset: i16,
+    },
+    LoadW {
+        dst: Reg,
+        base: Reg,
+        offset: i16,
+    },
+    LoadDw {
+        dst: Reg,
+        base: Reg,
+        offset: i16,
+    },
+    StoreImmB {
+        base: Reg,
+        offset: i16,
+        imm: i32,
+    },
+    StoreRegB {
+        base: Reg,
+        src: Reg,
+        offset: i16,
+    },
+    StoreImmH {
+        base: Reg,
+        offset: i16,
+        imm: i32,
+    },
+    StoreRegH {
+        base: Reg,
+        src: Reg,
+        offset: i16,
+    },
+    StoreImmW {
+        base: Reg,
+        offset: i16,
+        imm: i32,
+    },
+    StoreRegW {
+        base: Reg,
+        src: Reg,
+        offset: i16,
+    },
+    StoreImmDw {
+        base: Reg,
+        offset: i16,
+        imm: i32,
+    },
+    StoreRegDw {
+        base: Reg,
+        src: Reg,
+        offset: i16,
+    },
 }
 
 /// Puts into the table what the code has at each slot. Cells past the code stay.
@@ -95,6 +315,18 @@ fn cell_of(insn: Insn) -> Cell
             base,
             offset,
         } => load_cell(size, dst, base, offset),
+        Insn::StoreImm {
+            size,
+            base,
+            offset,
+            imm,
+        } => store_imm(size, base, offset, imm),
+        Insn::StoreReg {
+            size,
+            base,
+            offset,
+            src,
+        } => store_reg(size, base, offset, src),
         _ => Cell::Other,
     }
 }
@@ -102,18 +334,18 @@ fn cell_of(insn: Insn) -> Cell
 fn alu_cell(wide: bool, op: AluOp, dst: Reg, src: Src) -> Cell
     ensures { IfSome (insn_of result) (λ i. i ≡ insn.Alu wide op dst src) }
 {
-    if !wide {
-        return Cell::Other;
-    }
     match src {
-        Src::Imm(imm) => alu_imm(op, dst, imm),
-        Src::Reg(src) => alu_reg(op, dst, src),
+        Src::Imm(imm) => alu_imm(wide, op, dst, imm),
+        Src::Reg(src) => alu_reg(wide, op, dst, src),
     }
 }
 
-fn alu_imm(op: AluOp, dst: Reg, imm: i32) -> Cell
-    ensures { IfSome (insn_of result) (λ i. i ≡ insn.Alu true op dst (src.Imm imm)) }
+fn alu_imm(wide: bool, op: AluOp, dst: Reg, imm: i32) -> Cell
+    ensures { IfSome (insn_of result) (λ i. i ≡ insn.Alu wide op dst (src.Imm imm)) }
 {
+    if !wide {
+        return Cell::AluImm { wide, op, dst, imm };
+    }
     match op {
         AluOp::Add => Cell::AddImm { dst, imm },
         AluOp::Sub => Cell::SubImm { dst, imm },
@@ -125,14 +357,17 @@ fn alu_imm(op: AluOp, dst: Reg, imm: i32) -> Cell
         AluOp::Xor => Cell::XorImm { dst, imm },
         AluOp::Mov => Cell::MovImm { dst, imm },
         AluOp::Arsh => Cell::ArshImm { dst, imm },
-        AluOp::Div | AluOp::Sdiv | AluOp::Mod | AluOp::Smod => Cell::Other,
+        _ => Cell::AluImm { wide, op, dst, imm },
     }
 }
 
-fn alu_reg(op: AluOp, dst: Reg, from: Reg) -> Cell
-    ensures { IfSome (insn_of result) (λ i. i ≡ insn.Alu true op dst (src.Reg from)) }
+fn alu_reg(wide: bool, op: AluOp, dst: Reg, from: Reg) -> Cell
+    ensures { IfSome (insn_of result) (λ i. i ≡ insn.Alu wide op dst (src.Reg from)) }
 {
     let src = from;
+    if !wide {
+        return Cell::AluReg { wide, op, dst, src };
+    }
     match op {
         AluOp::Add => Cell::AddReg { dst, src },
         AluOp::Sub => Cell::SubReg { dst, src },
@@ -144,7 +379,7 @@ fn alu_reg(op: AluOp, dst: Reg, from: Reg) -> Cell
         AluOp::Xor => Cell::XorReg { dst, src },
         AluOp::Mov => Cell::MovReg { dst, src },
         AluOp::Arsh => Cell::ArshReg { dst, src },
-        AluOp::Div | AluOp::Sdiv | AluOp::Mod | AluOp::Smod => Cell::Other,
+        _ => Cell::AluReg { wide, op, dst, src },
     }
 }
 
@@ -205,5 +440,28 @@ fn load_cell(size: Size, dst: Reg, base: Reg, offset: i16) -> Cell
         Size::H => Cell::LoadH { dst, base, offset },
         Size::W => Cell::LoadW { dst, base, offset },
         Size::Dw => Cell::LoadDw { dst, base, offset },
+    }
+}
+
+fn store_imm(size: Size, base: Reg, offset: i16, imm: i32) -> Cell
+    ensures { IfSome (insn_of result) (λ i. i ≡ insn.StoreImm size base offset imm) }
+{
+    match size {
+        Size::B => Cell::StoreImmB { base, offset, imm },
+        Size::H => Cell::StoreImmH { base, offset, imm },
+        Size::W => Cell::StoreImmW { base, offset, imm },
+        Size::Dw => Cell::StoreImmDw { base, offset, imm },
+    }
+}
+
+fn store_reg(size: Size, base: Reg, offset: i16, from: Reg) -> Cell
+    ensures { IfSome (insn_of result) (λ i. i ≡ insn.StoreReg size base offset from) }
+{
+    let src = from;
+    match size {
+        Size::B => Cell::StoreRegB { base, src, offset },
+        Size::H => Cell::StoreRegH { base, src, offset },
+        Size::W => Cell::StoreRegW { base, src, offset },
+        Size::Dw => Cell::StoreRegDw { base, src, offset },
     }
 }

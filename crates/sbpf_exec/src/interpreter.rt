@@ -44,8 +44,9 @@ pub enum Outcome {
 /// Runs the code from its first slot over regions that were shaped, for at most `fuel` instructions.
 ///
 /// It is the run that the machine's definitions describe, on the joined bytes of the regions. Pages
-/// are read and written where they lie, and no memory is taken. Input, parameter and context stay as
-/// they are; of the output's buffer only bytes within the output's length may differ.
+/// are read and written where they lie, and no memory is taken but the stack's, for a table of 4,096 cells.
+/// Input, parameter and context stay as they are; of the output's buffer only bytes within the output's
+/// length may differ.
 ///
 /// Code that is accepted stays inside its slots: it ends by EXIT in the first frame, by a trap, or for
 /// want of fuel. Other code may also end with r0 by leaving them.

@@ -1,38 +1,43 @@
 // The quick step: what the instruction of a flat cell does where the run goes on after it.
 ghost use Rattle.std.specs.Prelude.{◌≡◌, ◌<◌, ◌≤◌, IsTrue, IfSome, Some, None, true, slice_index, slice_set};
 ghost use Rattle.sbpf_insn.specs.Table.{is_src};
-ghost use Rattle.sbpf_insn.specs.Arithmetic.{alu64_of};
-ghost use Rattle.sbpf_insn.specs.Machine.{Goes, step_at, operand, address, jumped, holds, load_step};
-ghost use Rattle.sbpf_exec.specs.Steps.{state, advanced, Reaches};
-ghost use Rattle.sbpf_exec.specs.Parts.{machine_regions, IsShaped};
+ghost use Rattle.sbpf_insn.specs.declared.insn.Src.TheVariants as src;
+ghost use Rattle.sbpf_insn.specs.Machine.{Goes, step_at, operand, address, alu_of, jumped, holds, load_step, store_step};
+ghost use Rattle.sbpf_exec.specs.Steps.{state, advanced, to_store, Reaches};
+ghost use Rattle.sbpf_exec.specs.Parts.{machine_regions, IsShaped, WritesWithin};
 ghost use Rattle.sbpf_exec.specs.FlatCells.{insn_of, is_formed, Mirrors};
 
 use crate::cells::{CELLS, Cell};
 use crate::cpu::Cpu;
 use crate::regions::Regions;
-use crate::step::{address_of, get, jump_to, operand_of, set};
-use sbpf_alu::{alu64, compare64};
+use crate::step::{address_of, computes, get, jump_to, operand_of, set};
+use sbpf_alu::compare64;
 use sbpf_insn::{AluOp, Code, Cond, Reg, Size, Src};
 
-/// What a quick step came to: on to the next slot, to another slot, or nothing, so that the whole step
-/// has to be made.
+/// What a quick step came to: on to the next slot, to another slot, a store that is still to be made, or
+/// nothing, so that the step of the instruction has to be made.
 #[derive(Clone, Copy)]
 pub enum Advance {
     Next,
     To(u32),
+    Store {
+        size: Size,
+        address: u64,
+        value: u64,
+    },
     Slow,
 }
 
-// An operation on 64 bits.
+// An operation.
 #[inline]
-fn computes(cpu: &mut Cpu, op: AluOp, dst: Reg, src: Src) -> Advance
+fn operates(cpu: &mut Cpu, wide: bool, op: AluOp, dst: Reg, src: Src) -> Advance
     requires dst { dst.n ≤ 10 }
     requires src { IsTrue (is_src src) }
     ensures next { result ≡ Advance.Next }
-    ensures set { cpu.new ≡ record cpu.old { registers = slice_set cpu.old.registers dst.n (alu64_of op (slice_index cpu.old.registers dst.n) (operand cpu.old.registers src)) } }
+    ensures set { cpu.new ≡ record cpu.old { registers = slice_set cpu.old.registers dst.n (alu_of wide op (slice_index cpu.old.registers dst.n) (operand cpu.old.registers src)) } }
 {
     let b = operand_of(cpu, src);
-    let value = alu64(op, get(cpu, dst), b);
+    let value = computes(wide, op, get(cpu, dst), b);
     set(cpu, dst, value);
     Advance::Next
 }
@@ -42,7 +47,8 @@ fn computes(cpu: &mut Cpu, op: AluOp, dst: Reg, src: Src) -> Advance
 fn jumps(cpu: &Cpu, slot: u32, cond: Cond, dst: Reg, src: Src, offset: i16) -> Advance
     requires dst { dst.n ≤ 10 }
     requires src { IsTrue (is_src src) }
-    ensures { advanced result slot ≡ Some (jumped (holds true cond (slice_index cpu.now.registers dst.n) (operand cpu.now.registers src)) slot offset) }
+    ensures no_store { to_store result ≡ None }
+    ensures next { advanced result slot ≡ Some (jumped (holds true cond (slice_index cpu.now.registers dst.n) (operand cpu.now.registers src)) slot offset) }
 {
     let b = operand_of(cpu, src);
     let a = get(cpu, dst);
@@ -53,9 +59,28 @@ fn jumps(cpu: &Cpu, slot: u32, cond: Cond, dst: Reg, src: Src, offset: i16) -> A
     }
 }
 
+#[inline]
+fn jump_imm(cpu: &Cpu, slot: u32, cond: Cond, dst: Reg, imm: i32, offset: i16) -> Advance
+    requires dst { dst.n ≤ 10 }
+    ensures no_store { to_store result ≡ None }
+    ensures next { advanced result slot ≡ Some (jumped (holds true cond (slice_index cpu.now.registers dst.n) (operand cpu.now.registers (src.Imm imm))) slot offset) }
+{
+    jumps(cpu, slot, cond, dst, Src::Imm(imm), offset)
+}
+
+#[inline]
+fn jump_reg(cpu: &Cpu, slot: u32, cond: Cond, dst: Reg, from: Reg, offset: i16) -> Advance
+    requires dst { dst.n ≤ 10 }
+    requires from { from.n ≤ 10 }
+    ensures no_store { to_store result ≡ None }
+    ensures next { advanced result slot ≡ Some (jumped (holds true cond (slice_index cpu.now.registers dst.n) (slice_index cpu.now.registers from.n)) slot offset) }
+{
+    jumps(cpu, slot, cond, dst, Src::Reg(from), offset)
+}
+
 // A load; `Slow`, and nothing changes, where it isn't near.
 #[inline]
-fn loads(
+fn load(
     cpu: &mut Cpu,
     regions: &Regions,
     slot: u32,
@@ -68,7 +93,8 @@ fn loads(
     requires base { base.n ≤ 10 }
     requires shaped { IsShaped regions.now }
     ensures next { IfSome (advanced result slot) (λ n. load_step (state cpu.old slot (machine_regions regions.now)) size dst (address cpu.old.registers base offset) (λ v. v) ≡ Goes (state cpu.new n (machine_regions regions.now))) }
-    ensures none { result ≡ Advance.Slow → cpu.new ≡ cpu.old }
+    ensures no_store { to_store result ≡ None }
+    ensures none { advanced result slot ≡ None → cpu.new ≡ cpu.old }
 {
     let address = address_of(cpu, base, offset);
     match regions.load_near(cpu.registers[10], address, size) {
@@ -80,225 +106,120 @@ fn loads(
     }
 }
 
-/// The step of a cell's instruction; `Slow`, and nothing changes, where the cell has none or it may trap.
+// A store, which is still to be made.
 #[inline]
-pub(crate) fn quick_step(cell: &Cell, cpu: &mut Cpu, regions: &Regions, slot: u32) -> Advance
+fn put(cpu: &Cpu, size: Size, base: Reg, offset: i16, src: Src) -> Advance
+    requires base { base.n ≤ 10 }
+    requires src { IsTrue (is_src src) }
+    ensures { result ≡ Advance.Store size (address cpu.now.registers base offset) (operand cpu.now.registers src) }
+{
+    let address = address_of(cpu, base, offset);
+    let value = operand_of(cpu, src);
+    Advance::Store {
+        size,
+        address,
+        value,
+    }
+}
+
+// The step of a cell's instruction, up to what it stores; `Slow`, and nothing changes, where the cell has
+// none or it may trap.
+#[inline]
+fn quick_step(cell: &Cell, cpu: &mut Cpu, regions: &Regions, slot: u32) -> Advance
     requires formed { IsTrue (is_formed (insn_of cell.now)) }
     requires shaped { IsShaped regions.now }
     ensures next { IfSome (advanced result slot) (λ n. step_at (insn_of cell.now) (state cpu.old slot (machine_regions regions.now)) ≡ Goes (state cpu.new n (machine_regions regions.now))) }
-    ensures none { result ≡ Advance.Slow → cpu.new ≡ cpu.old }
+    ensures stores { IfSome (to_store result) (λ put. step_at (insn_of cell.now) (state cpu.old slot (machine_regions regions.now)) ≡ store_step (state cpu.old slot (machine_regions regions.now)) put.0 put.1 put.2) }
+    ensures none { advanced result slot ≡ None → cpu.new ≡ cpu.old }
 {
     match *cell {
         Cell::Other => Advance::Slow,
-        Cell::AddImm { dst, imm } => computes(cpu, AluOp::Add, dst, Src::Imm(imm)),
-        Cell::AddReg { dst, src } => computes(cpu, AluOp::Add, dst, Src::Reg(src)),
-        Cell::SubImm { dst, imm } => computes(cpu, AluOp::Sub, dst, Src::Imm(imm)),
-        Cell::SubReg { dst, src } => computes(cpu, AluOp::Sub, dst, Src::Reg(src)),
-        Cell::MulImm { dst, imm } => computes(cpu, AluOp::Mul, dst, Src::Imm(imm)),
-        Cell::MulReg { dst, src } => computes(cpu, AluOp::Mul, dst, Src::Reg(src)),
-        Cell::OrImm { dst, imm } => computes(cpu, AluOp::Or, dst, Src::Imm(imm)),
-        Cell::OrReg { dst, src } => computes(cpu, AluOp::Or, dst, Src::Reg(src)),
-        Cell::AndImm { dst, imm } => computes(cpu, AluOp::And, dst, Src::Imm(imm)),
-        Cell::AndReg { dst, src } => computes(cpu, AluOp::And, dst, Src::Reg(src)),
-        Cell::LshImm { dst, imm } => computes(cpu, AluOp::Lsh, dst, Src::Imm(imm)),
-        Cell::LshReg { dst, src } => computes(cpu, AluOp::Lsh, dst, Src::Reg(src)),
-        Cell::RshImm { dst, imm } => computes(cpu, AluOp::Rsh, dst, Src::Imm(imm)),
-        Cell::RshReg { dst, src } => computes(cpu, AluOp::Rsh, dst, Src::Reg(src)),
-        Cell::XorImm { dst, imm } => computes(cpu, AluOp::Xor, dst, Src::Imm(imm)),
-        Cell::XorReg { dst, src } => computes(cpu, AluOp::Xor, dst, Src::Reg(src)),
-        Cell::MovImm { dst, imm } => computes(cpu, AluOp::Mov, dst, Src::Imm(imm)),
-        Cell::MovReg { dst, src } => computes(cpu, AluOp::Mov, dst, Src::Reg(src)),
-        Cell::ArshImm { dst, imm } => computes(cpu, AluOp::Arsh, dst, Src::Imm(imm)),
-        Cell::ArshReg { dst, src } => computes(cpu, AluOp::Arsh, dst, Src::Reg(src)),
+        Cell::AddImm { dst, imm } => operates(cpu, true, AluOp::Add, dst, Src::Imm(imm)),
+        Cell::AddReg { dst, src } => operates(cpu, true, AluOp::Add, dst, Src::Reg(src)),
+        Cell::SubImm { dst, imm } => operates(cpu, true, AluOp::Sub, dst, Src::Imm(imm)),
+        Cell::SubReg { dst, src } => operates(cpu, true, AluOp::Sub, dst, Src::Reg(src)),
+        Cell::MulImm { dst, imm } => operates(cpu, true, AluOp::Mul, dst, Src::Imm(imm)),
+        Cell::MulReg { dst, src } => operates(cpu, true, AluOp::Mul, dst, Src::Reg(src)),
+        Cell::OrImm { dst, imm } => operates(cpu, true, AluOp::Or, dst, Src::Imm(imm)),
+        Cell::OrReg { dst, src } => operates(cpu, true, AluOp::Or, dst, Src::Reg(src)),
+        Cell::AndImm { dst, imm } => operates(cpu, true, AluOp::And, dst, Src::Imm(imm)),
+        Cell::AndReg { dst, src } => operates(cpu, true, AluOp::And, dst, Src::Reg(src)),
+        Cell::LshImm { dst, imm } => operates(cpu, true, AluOp::Lsh, dst, Src::Imm(imm)),
+        Cell::LshReg { dst, src } => operates(cpu, true, AluOp::Lsh, dst, Src::Reg(src)),
+        Cell::RshImm { dst, imm } => operates(cpu, true, AluOp::Rsh, dst, Src::Imm(imm)),
+        Cell::RshReg { dst, src } => operates(cpu, true, AluOp::Rsh, dst, Src::Reg(src)),
+        Cell::XorImm { dst, imm } => operates(cpu, true, AluOp::Xor, dst, Src::Imm(imm)),
+        Cell::XorReg { dst, src } => operates(cpu, true, AluOp::Xor, dst, Src::Reg(src)),
+        Cell::MovImm { dst, imm } => operates(cpu, true, AluOp::Mov, dst, Src::Imm(imm)),
+        Cell::MovReg { dst, src } => operates(cpu, true, AluOp::Mov, dst, Src::Reg(src)),
+        Cell::ArshImm { dst, imm } => operates(cpu, true, AluOp::Arsh, dst, Src::Imm(imm)),
+        Cell::ArshReg { dst, src } => operates(cpu, true, AluOp::Arsh, dst, Src::Reg(src)),
+        Cell::AluImm { wide, op, dst, imm } => operates(cpu, wide, op, dst, Src::Imm(imm)),
+        Cell::AluReg { wide, op, dst, src } => operates(cpu, wide, op, dst, Src::Reg(src)),
         Cell::Ja { offset } => Advance::To(jump_to(slot, offset as i32)),
-        Cell::JeqImm { dst, offset, imm } => jumps(
-            cpu,
-            slot,
-            Cond::Jeq,
-            dst,
-            Src::Imm(imm),
-            offset,
-        ),
-        Cell::JeqReg { dst, src, offset } => jumps(
-            cpu,
-            slot,
-            Cond::Jeq,
-            dst,
-            Src::Reg(src),
-            offset,
-        ),
-        Cell::JgtImm { dst, offset, imm } => jumps(
-            cpu,
-            slot,
-            Cond::Jgt,
-            dst,
-            Src::Imm(imm),
-            offset,
-        ),
-        Cell::JgtReg { dst, src, offset } => jumps(
-            cpu,
-            slot,
-            Cond::Jgt,
-            dst,
-            Src::Reg(src),
-            offset,
-        ),
-        Cell::JgeImm { dst, offset, imm } => jumps(
-            cpu,
-            slot,
-            Cond::Jge,
-            dst,
-            Src::Imm(imm),
-            offset,
-        ),
-        Cell::JgeReg { dst, src, offset } => jumps(
-            cpu,
-            slot,
-            Cond::Jge,
-            dst,
-            Src::Reg(src),
-            offset,
-        ),
-        Cell::JsetImm { dst, offset, imm } => jumps(
-            cpu,
-            slot,
-            Cond::Jset,
-            dst,
-            Src::Imm(imm),
-            offset,
-        ),
-        Cell::JsetReg { dst, src, offset } => jumps(
-            cpu,
-            slot,
-            Cond::Jset,
-            dst,
-            Src::Reg(src),
-            offset,
-        ),
-        Cell::JneImm { dst, offset, imm } => jumps(
-            cpu,
-            slot,
-            Cond::Jne,
-            dst,
-            Src::Imm(imm),
-            offset,
-        ),
-        Cell::JneReg { dst, src, offset } => jumps(
-            cpu,
-            slot,
-            Cond::Jne,
-            dst,
-            Src::Reg(src),
-            offset,
-        ),
-        Cell::JsgtImm { dst, offset, imm } => jumps(
-            cpu,
-            slot,
-            Cond::Jsgt,
-            dst,
-            Src::Imm(imm),
-            offset,
-        ),
-        Cell::JsgtReg { dst, src, offset } => jumps(
-            cpu,
-            slot,
-            Cond::Jsgt,
-            dst,
-            Src::Reg(src),
-            offset,
-        ),
-        Cell::JsgeImm { dst, offset, imm } => jumps(
-            cpu,
-            slot,
-            Cond::Jsge,
-            dst,
-            Src::Imm(imm),
-            offset,
-        ),
-        Cell::JsgeReg { dst, src, offset } => jumps(
-            cpu,
-            slot,
-            Cond::Jsge,
-            dst,
-            Src::Reg(src),
-            offset,
-        ),
-        Cell::JltImm { dst, offset, imm } => jumps(
-            cpu,
-            slot,
-            Cond::Jlt,
-            dst,
-            Src::Imm(imm),
-            offset,
-        ),
-        Cell::JltReg { dst, src, offset } => jumps(
-            cpu,
-            slot,
-            Cond::Jlt,
-            dst,
-            Src::Reg(src),
-            offset,
-        ),
-        Cell::JleImm { dst, offset, imm } => jumps(
-            cpu,
-            slot,
-            Cond::Jle,
-            dst,
-            Src::Imm(imm),
-            offset,
-        ),
-        Cell::JleReg { dst, src, offset } => jumps(
-            cpu,
-            slot,
-            Cond::Jle,
-            dst,
-            Src::Reg(src),
-            offset,
-        ),
-        Cell::JsltImm { dst, offset, imm } => jumps(
-            cpu,
-            slot,
-            Cond::Jslt,
-            dst,
-            Src::Imm(imm),
-            offset,
-        ),
-        Cell::JsltReg { dst, src, offset } => jumps(
-            cpu,
-            slot,
-            Cond::Jslt,
-            dst,
-            Src::Reg(src),
-            offset,
-        ),
-        Cell::JsleImm { dst, offset, imm } => jumps(
-            cpu,
-            slot,
-            Cond::Jsle,
-            dst,
-            Src::Imm(imm),
-            offset,
-        ),
-        Cell::JsleReg { dst, src, offset } => jumps(
-            cpu,
-            slot,
-            Cond::Jsle,
-            dst,
-            Src::Reg(src),
-            offset,
-        ),
-        Cell::LoadB { dst, base, offset } => loads(cpu, regions, slot, Size::B, dst, base, offset),
-        Cell::LoadH { dst, base, offset } => loads(cpu, regions, slot, Size::H, dst, base, offset),
-        Cell::LoadW { dst, base, offset } => loads(cpu, regions, slot, Size::W, dst, base, offset),
-        Cell::LoadDw { dst, base, offset } => loads(
-            cpu,
-            regions,
-            slot,
-            Size::Dw,
-            dst,
-            base,
-            offset,
-        ),
+        Cell::JeqImm { dst, offset, imm } => jump_imm(cpu, slot, Cond::Jeq, dst, imm, offset),
+        Cell::JeqReg { dst, src, offset } => jump_reg(cpu, slot, Cond::Jeq, dst, src, offset),
+        Cell::JgtImm { dst, offset, imm } => jump_imm(cpu, slot, Cond::Jgt, dst, imm, offset),
+        Cell::JgtReg { dst, src, offset } => jump_reg(cpu, slot, Cond::Jgt, dst, src, offset),
+        Cell::JgeImm { dst, offset, imm } => jump_imm(cpu, slot, Cond::Jge, dst, imm, offset),
+        Cell::JgeReg { dst, src, offset } => jump_reg(cpu, slot, Cond::Jge, dst, src, offset),
+        Cell::JsetImm { dst, offset, imm } => jump_imm(cpu, slot, Cond::Jset, dst, imm, offset),
+        Cell::JsetReg { dst, src, offset } => jump_reg(cpu, slot, Cond::Jset, dst, src, offset),
+        Cell::JneImm { dst, offset, imm } => jump_imm(cpu, slot, Cond::Jne, dst, imm, offset),
+        Cell::JneReg { dst, src, offset } => jump_reg(cpu, slot, Cond::Jne, dst, src, offset),
+        Cell::JsgtImm { dst, offset, imm } => jump_imm(cpu, slot, Cond::Jsgt, dst, imm, offset),
+        Cell::JsgtReg { dst, src, offset } => jump_reg(cpu, slot, Cond::Jsgt, dst, src, offset),
+        Cell::JsgeImm { dst, offset, imm } => jump_imm(cpu, slot, Cond::Jsge, dst, imm, offset),
+        Cell::JsgeReg { dst, src, offset } => jump_reg(cpu, slot, Cond::Jsge, dst, src, offset),
+        Cell::JltImm { dst, offset, imm } => jump_imm(cpu, slot, Cond::Jlt, dst, imm, offset),
+        Cell::JltReg { dst, src, offset } => jump_reg(cpu, slot, Cond::Jlt, dst, src, offset),
+        Cell::JleImm { dst, offset, imm } => jump_imm(cpu, slot, Cond::Jle, dst, imm, offset),
+        Cell::JleReg { dst, src, offset } => jump_reg(cpu, slot, Cond::Jle, dst, src, offset),
+        Cell::JsltImm { dst, offset, imm } => jump_imm(cpu, slot, Cond::Jslt, dst, imm, offset),
+        Cell::JsltReg { dst, src, offset } => jump_reg(cpu, slot, Cond::Jslt, dst, src, offset),
+        Cell::JsleImm { dst, offset, imm } => jump_imm(cpu, slot, Cond::Jsle, dst, imm, offset),
+        Cell::JsleReg { dst, src, offset } => jump_reg(cpu, slot, Cond::Jsle, dst, src, offset),
+        Cell::LoadB { dst, base, offset } => load(cpu, regions, slot, Size::B, dst, base, offset),
+        Cell::LoadH { dst, base, offset } => load(cpu, regions, slot, Size::H, dst, base, offset),
+        Cell::LoadW { dst, base, offset } => load(cpu, regions, slot, Size::W, dst, base, offset),
+        Cell::LoadDw { dst, base, offset } => load(cpu, regions, slot, Size::Dw, dst, base, offset),
+        Cell::StoreImmB { base, offset, imm } => put(cpu, Size::B, base, offset, Src::Imm(imm)),
+        Cell::StoreRegB { base, src, offset } => put(cpu, Size::B, base, offset, Src::Reg(src)),
+        Cell::StoreImmH { base, offset, imm } => put(cpu, Size::H, base, offset, Src::Imm(imm)),
+        Cell::StoreRegH { base, src, offset } => put(cpu, Size::H, base, offset, Src::Reg(src)),
+        Cell::StoreImmW { base, offset, imm } => put(cpu, Size::W, base, offset, Src::Imm(imm)),
+        Cell::StoreRegW { base, src, offset } => put(cpu, Size::W, base, offset, Src::Reg(src)),
+        Cell::StoreImmDw { base, offset, imm } => put(cpu, Size::Dw, base, offset, Src::Imm(imm)),
+        Cell::StoreRegDw { base, src, offset } => put(cpu, Size::Dw, base, offset, Src::Reg(src)),
+    }
+}
+
+// The step of a cell's instruction; `Slow`, and nothing changes, where the cell has none or it may trap.
+#[inline]
+fn whole_step(cell: &Cell, cpu: &mut Cpu, regions: &mut Regions, slot: u32) -> Advance
+    requires formed { IsTrue (is_formed (insn_of cell.now)) }
+    requires shaped { IsShaped regions.old }
+    ensures next { IfSome (advanced result slot) (λ n. step_at (insn_of cell.now) (state cpu.old slot (machine_regions regions.old)) ≡ Goes (state cpu.new n (machine_regions regions.new))) }
+    ensures none { advanced result slot ≡ None → cpu.new ≡ cpu.old }
+    ensures kept { advanced result slot ≡ None → machine_regions regions.new ≡ machine_regions regions.old }
+    ensures within { WritesWithin regions.old regions.new }
+    ensures shaped { IsShaped regions.new }
+{
+    match quick_step(cell, cpu, regions, slot) {
+        Advance::Next => Advance::Next,
+        Advance::To(to) => Advance::To(to),
+        Advance::Store {
+            size,
+            address,
+            value,
+        } => {
+            if regions.store(cpu.registers[10], address, size, value) {
+                Advance::Next
+            } else {
+                Advance::Slow
+            }
+        }
+        Advance::Slow => Advance::Slow,
     }
 }
 
@@ -315,23 +236,25 @@ fn straight(
     code: &Code,
     cells: &[Cell; CELLS],
     cpu: &mut Cpu,
-    regions: &Regions,
+    regions: &mut Regions,
     first: u32,
 ) -> Reached
     requires mirrors { Mirrors cells.now code.now.insns }
-    requires shaped { IsShaped regions.now }
-    ensures reaches { Reaches result.steps code.now.insns (state cpu.old first (machine_regions regions.now)) (state cpu.new result.slot (machine_regions regions.now)) }
+    requires shaped { IsShaped regions.old }
+    ensures reaches { Reaches result.steps code.now.insns (state cpu.old first (machine_regions regions.old)) (state cpu.new result.slot (machine_regions regions.new)) }
     ensures few { result.steps ≤ 4096 }
+    ensures within { WritesWithin regions.old regions.new }
+    ensures shaped { IsShaped regions.new }
 {
     let mut slot = first;
     while (slot as usize) < CELLS {
-        match quick_step(&cells[slot as usize], cpu, regions, slot) {
+        match whole_step(&cells[slot as usize], cpu, regions, slot) {
             Advance::Next => slot += 1,
             Advance::To(to) => {
                 let steps = (slot - first) as u64 + 1;
                 return Reached { steps, slot: to };
             }
-            Advance::Slow => {
+            _ => {
                 let steps = (slot - first) as u64;
                 return Reached { steps, slot };
             }
@@ -350,14 +273,16 @@ pub(crate) fn quick_run(
     code: &Code,
     cells: &[Cell; CELLS],
     cpu: &mut Cpu,
-    regions: &Regions,
+    regions: &mut Regions,
     first: u32,
     fuel: u64,
 ) -> Reached
     requires mirrors { Mirrors cells.now code.now.insns }
-    requires shaped { IsShaped regions.now }
-    ensures reaches { Reaches result.steps code.now.insns (state cpu.old first (machine_regions regions.now)) (state cpu.new result.slot (machine_regions regions.now)) }
+    requires shaped { IsShaped regions.old }
+    ensures reaches { Reaches result.steps code.now.insns (state cpu.old first (machine_regions regions.old)) (state cpu.new result.slot (machine_regions regions.new)) }
     ensures some_left { 0 < fuel → result.steps < fuel }
+    ensures within { WritesWithin regions.old regions.new }
+    ensures shaped { IsShaped regions.new }
 {
     let mut slot = first;
     let mut left = fuel;

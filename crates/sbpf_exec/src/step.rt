@@ -84,7 +84,7 @@ pub(crate) fn slot_after(taken: bool, slot: u32, offset: i32) -> u32
 }
 
 #[inline]
-fn computes(wide: bool, op: AluOp, a: u64, b: u64) -> u64
+pub(crate) fn computes(wide: bool, op: AluOp, a: u64, b: u64) -> u64
     ensures { result ≡ alu_of wide op a b }
 {
     if wide {

@@ -22,14 +22,14 @@ loop-left-preserved c =
     let steps = c.quick_run-reached.result.steps in
     let left = c.loop-left.left - steps in
     let m = state c.loop-left.cpu c.loop-left.slot (machine_regions c.loop-left.regions) in
-    let mid = state c.quick_run-reached.new.cpu c.quick_run-reached.result.slot (machine_regions c.loop-left.regions) in
+    let mid = state c.quick_run-reached.new.cpu c.quick_run-reached.result.slot (machine_regions c.quick_run-reached.new.regions) in
     let fewer : steps < c.loop-left.left = c.quick_run-reached.ensures.some_left c.loop-left-test.true in
     let same = sym c.loop-left.invariant.same ∙ reach_left steps c.loop-left.left c.args.fuel c.args.code.now.insns m mid c.loop-left.invariant.within (omega arith) c.quick_run-reached.ensures.reaches in
     let on = step_left c.args.fuel left c.args.code.now.insns mid _ (omega arith) (omega arith) c.in-Goes.ensures.next in
     record {
       within = omega arith;
       same = sym (same ∙ on);
-      writes = writes_twice _ _ _ c.loop-left.invariant.writes c.in-Goes.ensures.within;
+      writes = writes_twice _ _ _ (writes_twice _ _ _ c.loop-left.invariant.writes c.quick_run-reached.ensures.within) c.in-Goes.ensures.within;
       shaped = c.in-Goes.ensures.shaped;
     }
 
@@ -38,7 +38,7 @@ returns-in-Done-clause-outcome c =
     let steps = c.quick_run-reached.result.steps in
     let left = c.loop-left.left - steps in
     let m = state c.loop-left.cpu c.loop-left.slot (machine_regions c.loop-left.regions) in
-    let mid = state c.quick_run-reached.new.cpu c.quick_run-reached.result.slot (machine_regions c.loop-left.regions) in
+    let mid = state c.quick_run-reached.new.cpu c.quick_run-reached.result.slot (machine_regions c.quick_run-reached.new.regions) in
     let fewer : steps < c.loop-left.left = c.quick_run-reached.ensures.some_left c.loop-left-test.true in
     let same = sym c.loop-left.invariant.same ∙ reach_left steps c.loop-left.left c.args.fuel c.args.code.now.insns m mid c.loop-left.invariant.within (omega arith) c.quick_run-reached.ensures.reaches in
     let on = step_left c.args.fuel left c.args.code.now.insns mid _ (omega arith) (omega arith) c.in-Done.ensures.next in
@@ -49,7 +49,7 @@ returns-in-Access-clause-outcome c =
     let steps = c.quick_run-reached.result.steps in
     let left = c.loop-left.left - steps in
     let m = state c.loop-left.cpu c.loop-left.slot (machine_regions c.loop-left.regions) in
-    let mid = state c.quick_run-reached.new.cpu c.quick_run-reached.result.slot (machine_regions c.loop-left.regions) in
+    let mid = state c.quick_run-reached.new.cpu c.quick_run-reached.result.slot (machine_regions c.quick_run-reached.new.regions) in
     let fewer : steps < c.loop-left.left = c.quick_run-reached.ensures.some_left c.loop-left-test.true in
     let same = sym c.loop-left.invariant.same ∙ reach_left steps c.loop-left.left c.args.fuel c.args.code.now.insns m mid c.loop-left.invariant.within (omega arith) c.quick_run-reached.ensures.reaches in
     let on = step_left c.args.fuel left c.args.code.now.insns mid _ (omega arith) (omega arith) c.in-Access.ensures.next in
@@ -60,7 +60,7 @@ returns-in-Depth-clause-outcome c =
     let steps = c.quick_run-reached.result.steps in
     let left = c.loop-left.left - steps in
     let m = state c.loop-left.cpu c.loop-left.slot (machine_regions c.loop-left.regions) in
-    let mid = state c.quick_run-reached.new.cpu c.quick_run-reached.result.slot (machine_regions c.loop-left.regions) in
+    let mid = state c.quick_run-reached.new.cpu c.quick_run-reached.result.slot (machine_regions c.quick_run-reached.new.regions) in
     let fewer : steps < c.loop-left.left = c.quick_run-reached.ensures.some_left c.loop-left-test.true in
     let same = sym c.loop-left.invariant.same ∙ reach_left steps c.loop-left.left c.args.fuel c.args.code.now.insns m mid c.loop-left.invariant.within (omega arith) c.quick_run-reached.ensures.reaches in
     let on = step_left c.args.fuel left c.args.code.now.insns mid _ (omega arith) (omega arith) c.in-Depth.ensures.next in
@@ -72,13 +72,13 @@ returns-clause-outcome c =
     sym c.loop-left.invariant.same ∙ spent c.loop-left.left _ c.args.code.now.insns m c.loop-left-test.false
 
 pub returns-in-Done-clause-within : goal.returns-in-Done-clause-within
-returns-in-Done-clause-within c = writes_twice _ _ _ c.loop-left.invariant.writes c.in-Done.ensures.within
+returns-in-Done-clause-within c = writes_twice _ _ _ (writes_twice _ _ _ c.loop-left.invariant.writes c.quick_run-reached.ensures.within) c.in-Done.ensures.within
 
 pub returns-in-Access-clause-within : goal.returns-in-Access-clause-within
-returns-in-Access-clause-within c = writes_twice _ _ _ c.loop-left.invariant.writes c.in-Access.ensures.within
+returns-in-Access-clause-within c = writes_twice _ _ _ (writes_twice _ _ _ c.loop-left.invariant.writes c.quick_run-reached.ensures.within) c.in-Access.ensures.within
 
 pub returns-in-Depth-clause-within : goal.returns-in-Depth-clause-within
-returns-in-Depth-clause-within c = writes_twice _ _ _ c.loop-left.invariant.writes c.in-Depth.ensures.within
+returns-in-Depth-clause-within c = writes_twice _ _ _ (writes_twice _ _ _ c.loop-left.invariant.writes c.quick_run-reached.ensures.within) c.in-Depth.ensures.within
 
 pub returns-in-Done-clause-inside : goal.returns-in-Done-clause-inside
 returns-in-Done-clause-inside c = λ ok. accepted_stays c.args.fuel c.args.code.now.insns (machine_regions c.args.regions.now) ok
