@@ -49,7 +49,7 @@ impl RawMem {
     ) -> Result<RawMem, NoMemory>
         requires { blocks < 2 ^ 26 }
         ensures pages { IfOk result (λ raw. pages_of raw ≡ replicate (64 * blocks) None) }
-        ensures blocks { IfOk result (λ raw. raw.blocks ≡ blocks) }
+        ensures blocks { IfOk result (λ raw. (view_of raw).blocks ≡ blocks) }
         ensures plan { IfOk result (λ raw. plan_of raw ≡ record {
           earlier = 0;
           reads = first_calls reads.items;
@@ -73,7 +73,7 @@ impl RawMem {
     pub fn arm(&mut self, reads: Vec<u32>, programs: Vec<u32>, erases: Vec<u32>)
         requires { (view_of self.old).faults < 2 ^ 62 }
         ensures pages { pages_of self.new ≡ pages_of self.old }
-        ensures blocks { self.new.blocks ≡ self.old.blocks }
+        ensures blocks { (view_of self.new).blocks ≡ (view_of self.old).blocks }
         ensures plan { plan_of self.new ≡ record {
           earlier = (view_of self.old).faults;
           reads = first_calls reads.items;
@@ -106,7 +106,8 @@ impl RawFlash for RawMem {
         requires { IsProgrammed (view_of self.old).pages page }
         ensures went { RawRead (view_of self.old) page (is_ok result) into.old into.new (view_of self.new) }
         ensures fails { is_ok result ≡ not (next_fails (plan_of self.old).reads) }
-        ensures plan { plan_of self.new ≡ record (plan_of self.old) { reads = after_call (plan_of self.old).reads } }
+        ensures plan { plan_of self.new
+            ≡ record (plan_of self.old) { reads = after_call (plan_of self.old).reads } }
     {
         if self.reads.next_fails() {
             self.faults += 1;
@@ -120,7 +121,8 @@ impl RawFlash for RawMem {
         requires { IsNextErased (view_of self.old).pages page }
         ensures went { RawProgram (view_of self.old) page (is_ok result) from.now (view_of self.new) }
         ensures fails { is_ok result ≡ not (next_fails (plan_of self.old).programs) }
-        ensures plan { plan_of self.new ≡ record (plan_of self.old) { programs = after_call (plan_of self.old).programs } }
+        ensures plan { plan_of self.new
+            ≡ record (plan_of self.old) { programs = after_call (plan_of self.old).programs } }
         ensures ok { OnOk result (pages_of self.new ≡ set (pages_of self.old) page (Some from.now)) }
         ensures err { OnErr result (pages_of self.new ≡ set (pages_of self.old) page (Some spoilt_page)) }
     {
@@ -137,7 +139,8 @@ impl RawFlash for RawMem {
         requires { block < (view_of self.old).blocks }
         ensures went { RawErase (view_of self.old) block (is_ok result) (view_of self.new) }
         ensures fails { is_ok result ≡ not (next_fails (plan_of self.old).erases) }
-        ensures plan { plan_of self.new ≡ record (plan_of self.old) { erases = after_call (plan_of self.old).erases } }
+        ensures plan { plan_of self.new
+            ≡ record (plan_of self.old) { erases = after_call (plan_of self.old).erases } }
         ensures ok { OnOk result (pages_of self.new ≡ erased_block (pages_of self.old) block) }
         ensures err { OnErr result (pages_of self.new ≡ pages_of self.old) }
     {
