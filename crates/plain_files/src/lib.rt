@@ -4,5 +4,5 @@
 mod calls;
 mod words;
 
-pub use calls::{Call, Numbered, PlainFile, Reply, Request, allowed};
+pub use calls::{Call, CodeKind, Numbered, PlainFile, Reply, Request, allowed};
 pub use words::Word;
