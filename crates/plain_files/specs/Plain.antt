@@ -222,6 +222,10 @@ abbrev pub run_of : State → List ℕ → ℕ → List ℕ → List ℕ → Lis
 run_of s function fuel input output param =
     ended (machine.run (code_in s function) (machine.shaped input output param) fuel)
 
+-- the first r0 bytes of the output, where it has so many
+abbrev pub first_bytes : ℕ → RunEnd → Reply
+first_bytes cap end = if nat_lt cap end.r0 then TrapOutLen end.r0 else Res (take end.r0 end.output)
+
 -- What a call does where none of the early refusals holds. The refusals that are left stand in their order.
 abbrev pub effect : State → Call → Result Answered Reply
 effect s (Create name) = do
@@ -247,8 +251,7 @@ effect s (Load name bytes) = do
 effect s (Unload name) = Ok (done_with_functions s (without (is_function name) s.functions))
 effect s (Readl file off len function fuel cap param) = do
   end ← run_of s function fuel (Cut (bytes_in s file) off len) (replicate cap 0) param
-  _ ← refuse (nat_lt cap end.r0) (TrapOutLen end.r0)
-  Ok (reply_alone s (Res (take end.r0 end.output)))
+  Ok (reply_alone s (first_bytes cap end))
 effect s (Writel file off len function fuel param input) = do
   end ← run_of s function fuel input (with_length (Cut (bytes_in s file) off len) len) param
   stored s file (Put (bytes_in s file) off end.output) (Val end.r0)
