@@ -173,64 +173,52 @@ pub struct Numbered {
 pub fn allowed(call: &Call, reply: &Reply) -> bool
     ensures { result ≡ is_allowed call.now reply.now }
 {
+    use Reply::{
+        AppendOnly, At, BadCode, BadName, DataBytes, Done, Exists, FnFull, Full, Id, Len, NoFile,
+        NoFn, NoSpace, Res, Spent, TooBig, TooLong, TrapAccess, TrapDepth, TrapOutLen, Val,
+    };
+
     if let Reply::Fault | Reply::NoMemory = reply {
         return true;
     }
     match call {
-        Call::Create(_) => matches!(
-            reply,
-            Reply::Id(_) | Reply::BadName | Reply::Exists | Reply::Full
-        ),
-        Call::OpenFile(_) => matches!(reply, Reply::Id(_) | Reply::NoFile),
-        Call::Stat(_) => matches!(reply, Reply::Len(_) | Reply::NoFile),
-        Call::Remove(_) | Call::Seal(_) => matches!(reply, Reply::Done | Reply::NoFile),
-        Call::Read(..) => matches!(reply, Reply::DataBytes(_) | Reply::TooLong | Reply::NoFile),
+        Call::Create(_) => matches!(reply, Id(_) | BadName | Exists | Full),
+        Call::OpenFile(_) => matches!(reply, Id(_) | NoFile),
+        Call::Stat(_) => matches!(reply, Len(_) | NoFile),
+        Call::Remove(_) | Call::Seal(_) => matches!(reply, Done | NoFile),
+        Call::Read(..) => matches!(reply, DataBytes(_) | TooLong | NoFile),
         Call::Write(..) => matches!(
             reply,
-            Reply::Done
-                | Reply::TooLong
-                | Reply::NoFile
-                | Reply::AppendOnly
-                | Reply::TooBig
-                | Reply::NoSpace
+            Done | TooLong | NoFile | AppendOnly | TooBig | NoSpace
         ),
-        Call::Append(..) => matches!(
-            reply,
-            Reply::At(_) | Reply::TooLong | Reply::NoFile | Reply::TooBig | Reply::NoSpace
-        ),
-        Call::Trunc(..) => matches!(
-            reply,
-            Reply::Done | Reply::NoFile | Reply::AppendOnly | Reply::TooBig | Reply::NoSpace
-        ),
-        Call::Load(..) => matches!(
-            reply,
-            Reply::Done | Reply::BadName | Reply::BadCode { .. } | Reply::Exists | Reply::FnFull
-        ),
-        Call::Unload(_) => matches!(reply, Reply::Done | Reply::NoFn),
+        Call::Append(..) => matches!(reply, At(_) | TooLong | NoFile | TooBig | NoSpace),
+        Call::Trunc(..) => matches!(reply, Done | NoFile | AppendOnly | TooBig | NoSpace),
+        Call::Load(..) => matches!(reply, Done | BadName | BadCode { .. } | Exists | FnFull),
+        Call::Unload(_) => matches!(reply, Done | NoFn),
         Call::Readl { .. } => matches!(
             reply,
-            Reply::Res(_)
-                | Reply::TooLong
-                | Reply::NoFile
-                | Reply::NoFn
-                | Reply::TrapAccess { .. }
-                | Reply::TrapDepth { .. }
-                | Reply::TrapOutLen { .. }
-                | Reply::Spent
+            Res(_)
+                | TooLong
+                | NoFile
+                | NoFn
+                | TrapAccess { .. }
+                | TrapDepth { .. }
+                | TrapOutLen { .. }
+                | Spent
         ),
         Call::Writel { .. } => matches!(
             reply,
-            Reply::Val(_)
-                | Reply::TooLong
-                | Reply::NoFile
-                | Reply::NoFn
-                | Reply::AppendOnly
-                | Reply::TooBig
-                | Reply::TrapAccess { .. }
-                | Reply::TrapDepth { .. }
-                | Reply::Spent
-                | Reply::NoSpace
+            Val(_)
+                | TooLong
+                | NoFile
+                | NoFn
+                | AppendOnly
+                | TooBig
+                | TrapAccess { .. }
+                | TrapDepth { .. }
+                | Spent
+                | NoSpace
         ),
-        Call::Sync => matches!(reply, Reply::Done),
+        Call::Sync => matches!(reply, Done),
     }
 }

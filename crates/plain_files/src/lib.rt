@@ -2,6 +2,7 @@
 #![tactic(auto)]
 
 mod calls;
+pub mod laws;
 mod words;
 
 pub use calls::{Call, CodeKind, Numbered, PlainFile, Reply, Request, allowed};
