@@ -1,5 +1,5 @@
 -- A run over flat regions is the run over their bytes.
-use Rattle.std.proofs.Common.{◌≡◌, ℕ, ◌≤◌, List, length, take, drop, Result, refl, ap, subst, ◌∙◌, sym, arith}
+use Rattle.std.proofs.Common.{◌≡◌, ℕ, ◌≤◌, List, length, take, drop, Result, ap, ◌∙◌, sym, arith}
 use Rattle.std.proofs.lemmas.Grind.{common_steps}
 use Rattle.sbpf_insn.specs.declared.insn.Insn.{Insn}
 use Rattle.sbpf_insn.specs.Machine as machine

@@ -1,12 +1,12 @@
 -- The first element of a list that passes a test: where it stands, and what edits there come to.
-use Rattle.std.proofs.Common.{◌≡◌, ℕ, ◌+◌, ◌<◌, List, [], ◌∷◌, ◌++◌, length, take, drop, set, Bool, true, false, not, cond, Option, Some, None, suc, refl, ap, ◌∙◌, sym, arith}
+use Rattle.std.proofs.Common.{◌≡◌, ℕ, ◌+◌, ◌<◌, List, [], ◌∷◌, length, set, Bool, true, false, not, cond, Option, Some, None, suc, refl, ap, ◌∙◌, sym, arith}
 use Rattle.std.specs.Prelude.{slice_get, is_none, unwrap_or}
 use Rattle.std.specs.List.{find, position, position_or_len, remove}
 use Rattle.std.proofs.lemmas.Bool.Decides.{nat_tests}
 use Rattle.std.proofs.lemmas.List.Folds.{find_at}
 use Rattle.plain_files.specs.declared.calls.PlainFile.{PlainFile}
 use Rattle.plain_files.specs.Lists.{with_changed, without}
-use Rattle.plain_files.specs.Plain.{State, Function, is_file, is_function, file_in, has_no_file, has_no_function}
+use Rattle.plain_files.specs.Plain.{State, Function, is_file, is_function, file_in, has_no_file}
 
 one_more : (n : ℕ) → 1 + n ≡ suc n
 one_more n = omega arith

@@ -1,5 +1,5 @@
 -- What a call answers that runs a function.
-use Rattle.std.proofs.Common.{◌≡◌, Result, Ok, Err, refl, ap, sym}
+use Rattle.std.proofs.Common.{◌≡◌, Result, Ok, Err, refl, ap}
 use Rattle.std.specs.Prelude.{IfOk}
 use Rattle.plain_files.specs.declared.calls.Reply.{Reply}
 use Rattle.plain_files.specs.Steps.{◌>>=◌}

@@ -9,7 +9,7 @@ use Rattle.plain_files.specs.declared.calls.PlainFile.{PlainFile}
 use Rattle.plain_files.specs.declared.calls.Reply.{Reply}
 use Rattle.plain_files.specs.declared.calls.Reply.TheVariants.{NoSpace}
 use Rattle.plain_files.specs.Lists.{with_changed}
-use Rattle.plain_files.specs.Plain.{State, Answered, is_file, file_in, pages_of, with_content, stored, or_refusal, reply_alone, with_length}
+use Rattle.plain_files.specs.Plain.{State, Answered, is_file, file_in, pages_of, stored, or_refusal, reply_alone, with_length}
 
 -- the files, of which the one of the name at a place has these bytes
 abbrev pub refilled : State → List ℕ → ℕ → List ℕ → List PlainFile

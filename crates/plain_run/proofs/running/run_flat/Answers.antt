@@ -1,4 +1,4 @@
-use Rattle.std.proofs.Common.{◌≡◌, ℕ, List, ap, sym, ◌∙◌, length}
+use Rattle.std.proofs.Common.{ℕ, List, ap, ◌∙◌, length}
 use Rattle.sbpf_insn.specs.Machine as machine
 use Rattle.sbpf_exec.specs.Buffers.{region_bytes}
 use Rattle.plain_files.specs.Plain.{ended}

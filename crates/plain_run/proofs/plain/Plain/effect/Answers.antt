@@ -1,4 +1,4 @@
-use Rattle.std.proofs.Common.{◌≡◌, ℕ, List, subst, sym}
+use Rattle.std.proofs.Common.{ℕ, List, subst, sym}
 use Rattle.plain_files.specs.declared.calls.Call.{Call}
 use Rattle.plain_files.specs.declared.calls.Call.TheVariants.{Write}
 use Rattle.plain_files.specs.Plain.{effect, or_refusal}

@@ -1,4 +1,4 @@
-use Rattle.std.proofs.Common.{◌≡◌, ap, sym, ◌∙◌, Some, ℕ, List, false, refl, subst}
+use Rattle.std.proofs.Common.{◌≡◌, ap, ◌∙◌, Some, ℕ, List, false}
 use Rattle.std.specs.List.{position}
 use Rattle.plain_files.specs.declared.calls.PlainFile.{PlainFile}
 use Rattle.plain_files.specs.Plain.{State, is_file, has_no_file}

@@ -1,9 +1,7 @@
-use Rattle.std.proofs.Common.{◌≡◌, ℕ, List, Result, Ok, replicate, ap, subst, ◌∙◌, sym}
-use Rattle.page_base.specs.Bytes.{Cut, Put}
+use Rattle.std.proofs.Common.{◌≡◌, Result, Ok, replicate, ap, ◌∙◌, sym}
+use Rattle.page_base.specs.Bytes.{Cut}
 use Rattle.plain_files.specs.declared.calls.Reply.{Reply}
-use Rattle.plain_files.specs.declared.calls.Reply.TheVariants.{Val}
-use Rattle.plain_files.specs.Plain.{State, Answered, RunEnd, bytes_in, first_bytes, or_refusal, reply_alone, run_of, stored, with_length}
-use Rattle.plain_run.specs.Answers.{Gives}
+use Rattle.plain_files.specs.Plain.{Answered, RunEnd, bytes_in, first_bytes, reply_alone, run_of}
 use Rattle.plain_run.proofs.Runs.{after_end, after_stop}
 use Rattle.plain_run.proofs.plain.Plain.readl.Goals as goal
 

@@ -1,11 +1,10 @@
-use Rattle.std.proofs.Common.{◌≡◌, ◌≤◌, ℕ, List, length, set, Some, refl, ap, subst, ◌∙◌, sym, arith}
+use Rattle.std.proofs.Common.{◌≡◌, ℕ, List, length, set, Some, ap, subst, ◌∙◌, sym}
 use Rattle.std.specs.Prelude.{slice_get}
-use Rattle.page_base.specs.Bytes.{Put}
 use Rattle.plain_files.specs.declared.calls.PlainFile.{PlainFile}
 use Rattle.plain_files.specs.Lists.{with_changed}
-use Rattle.plain_files.specs.Plain.{State, is_file, file_in, bytes_in, with_length, pages_of}
+use Rattle.plain_files.specs.Plain.{State, is_file, file_in, bytes_in, with_length}
 use Rattle.plain_files.specs.declared.calls.Reply.TheVariants.{Done}
-use Rattle.plain_run.proofs.Stores.{length_exact, refilled, store_refused, store_done, same_at, parts_of}
+use Rattle.plain_run.proofs.Stores.{length_exact, store_refused, store_done, same_at, parts_of}
 use Rattle.plain_run.proofs.plain.Plain.trunc.Goals as goal
 
 pub returns-then-not-has_room : goal.returns-then-not-has_room

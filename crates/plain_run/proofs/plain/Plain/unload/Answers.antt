@@ -1,4 +1,4 @@
-use Rattle.std.proofs.Common.{◌≡◌, ap, sym, ◌∙◌}
+use Rattle.std.proofs.Common.{ap, sym, ◌∙◌}
 use Rattle.std.specs.List.{position, remove}
 use Rattle.plain_files.specs.Plain.{State, is_function}
 use Rattle.plain_run.proofs.Places.{function_removed, nowhere}

@@ -1,8 +1,8 @@
-use Rattle.std.proofs.Common.{◌≡◌, ℕ, List, Result, replicate, ap, subst, ◌∙◌, sym}
+use Rattle.std.proofs.Common.{◌≡◌, Result, ap, subst, ◌∙◌, sym}
 use Rattle.page_base.specs.Bytes.{Cut, Put}
 use Rattle.plain_files.specs.declared.calls.Reply.{Reply}
 use Rattle.plain_files.specs.declared.calls.Reply.TheVariants.{Val}
-use Rattle.plain_files.specs.Plain.{State, Answered, RunEnd, bytes_in, first_bytes, or_refusal, reply_alone, run_of, stored, with_length}
+use Rattle.plain_files.specs.Plain.{Answered, RunEnd, bytes_in, or_refusal, run_of, stored, with_length}
 use Rattle.plain_run.specs.Answers.{Gives}
 use Rattle.plain_run.proofs.Runs.{after_end, after_stop}
 use Rattle.plain_run.proofs.plain.Plain.writel.Goals as goal
