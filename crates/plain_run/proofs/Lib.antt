@@ -4,3 +4,4 @@ pub mod Puts
 pub mod Stores
 pub mod Flat
 pub mod Runs
+pub mod Ordered

@@ -6,6 +6,7 @@ mod contents;
 mod early;
 mod files;
 mod functions;
+pub mod laws;
 mod plain;
 mod running;
 #[cfg(test)]
