@@ -1,4 +1,5 @@
 pub mod Steps
+pub mod Lists
 pub mod Plain
 pub mod History
 pub mod Allowed

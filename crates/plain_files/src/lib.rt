@@ -2,7 +2,8 @@
 #![tactic(auto)]
 
 mod calls;
+pub mod laws;
 mod words;
 
-pub use calls::{Call, Numbered, PlainFile, Reply, Request, allowed};
+pub use calls::{Call, CodeKind, Numbered, PlainFile, Reply, Request, allowed};
 pub use words::Word;
