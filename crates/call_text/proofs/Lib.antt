@@ -1,5 +1,10 @@
-pub mod Values
+pub mod Cuts
+pub mod LaneText
 pub mod LanePlaces
-pub mod Lanes
 pub mod Orders
+pub mod Names
 pub mod Kept
+pub mod BlockLaws
+pub mod HexSizes
+pub mod KeptSteps
+pub mod Later

@@ -1,7 +1,12 @@
 pub mod Words
-pub mod Outcomes
+pub mod Blocks
 pub mod Calls
+pub mod Limits
+pub mod Awaits
 pub mod Scripts
 pub mod Order
 pub mod Building
+pub mod Outcomes
 pub mod Print
+pub mod Transcripts
+pub mod Found

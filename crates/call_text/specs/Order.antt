@@ -1,16 +1,25 @@
--- The order of a script's calls has each call of each lane once, in the order of its lane. It is this project's own.
-use Rattle.std.specs.Prelude.{◌≡◌, ℕ, ◌+◌, ◌≤◌, List, [], ◌∷◌, ◌++◌, length, map, ◌==◌, if◌then◌else◌, Some, None, slice_get}
+-- The order of a script's calls: it has each call of each lane once, in the order of its lane and behind the call that it
+-- awaits. It is this project's own.
+use Rattle.std.specs.Prelude.{◌≡◌, ℕ, ◌+◌, ◌≤◌, List, [], ◌∷◌, ◌++◌, length, map, bytes_eq, ◌==◌, if◌then◌else◌, Some, slice_get, IfSome}
+use Rattle.std.specs.List.{IsDistinct}
 use Rattle.plain_files.specs.declared.calls.Request.{Request}
 use Rattle.plain_files.specs.History.{requests_of}
+use Rattle.call_text.specs.declared.script.Lane.{Lane}
 use Rattle.call_text.specs.declared.script.Script.{Script}
 
 -- the requests of each lane
+abbrev pub requests_by_lane : List Lane → List (List Request)
+requests_by_lane lanes = map (λ lane. lane.requests) lanes
+
 abbrev pub requests : Script → List (List Request)
-requests s = map (λ lane. lane.requests) s.lanes
+requests s = requests_by_lane s.lanes
 
 -- the names of the lanes
+abbrev pub lane_names : List Lane → List (List ℕ)
+lane_names lanes = map (λ lane. lane.name) lanes
+
 abbrev pub names : Script → List (List ℕ)
-names s = map (λ lane. lane.name) s.lanes
+names s = lane_names s.lanes
 
 -- how many of some places are in a lane
 abbrev pub count_in : ℕ → List (ℕ × ℕ) → ℕ
@@ -26,7 +35,24 @@ InOrder lanes before (place ∷ places) =
     × (place.1 ≤ length (requests_of lanes place.0))
     × InOrder lanes (before ++ place ∷ []) places
 
--- The order has each call once, in its lane's order, and no request waits.
+-- behind some places, the call (lane, k) has been made
+abbrev pub HasEnded : List (ℕ × ℕ) → ℕ × ℕ → Type 0
+HasEnded before call = (1 ≤ call.1) × (call.1 ≤ count_in call.0 before)
+
+-- behind some places, each place's request comes after the call that it awaits
+abbrev pub Awaited : List (List Request) → List (ℕ × ℕ) → List (ℕ × ℕ) → Type 0
+Awaited lanes before [] = Unit {0}
+Awaited lanes before (place ∷ places) =
+    ((r : Request) → slice_get (requests_of lanes place.0) (count_in place.0 before) ≡ Some r → IfSome r.awaits (HasEnded before))
+    × Awaited lanes (before ++ place ∷ []) places
+
+-- The order has each call once, in its lane's order and behind the call that it awaits; no two lanes have one name.
 pub record IsOrdered (s : Script) : Type 0 where
   pub order : InOrder (requests s) [] s.order
-  pub free : (lane n : ℕ) (r : Request) → slice_get (requests_of (requests s) lane) n ≡ Some r → r.awaits ≡ None
+  pub awaited : Awaited (requests s) [] s.order
+  pub names : IsDistinct bytes_eq (names s)
+
+-- at most 32 lanes and 10,000 calls
+pub record IsWithinLimits (s : Script) : Type 0 where
+  pub lanes : length s.lanes ≤ 32
+  pub calls : length s.order ≤ 10000

@@ -1,10 +1,9 @@
-//! Lines, words, numbers, lanes and bytes of a script.
-ghost use Rattle.std.specs.Prelude.{◌≡◌, IsTrue, IfOk, IfSome, map, option_copied, ◌^◌, true, nat_lt, if◌then◌else◌};
-ghost use Rattle.std.specs.List.{list_all};
-ghost use Rattle.std.specs.Option.{option_map};
-ghost use Rattle.call_text.specs.Words.{lines, words, is_blank, is_digit, is_line_byte, is_decimal, number, value_of, is_lane_byte, is_lane, lane_of, bytes_of};
+//! Lines and words of a text.
+ghost use Rattle.std.specs.Prelude.{◌≡◌, ◌≤◌, IfOk, map, length};
+ghost use Rattle.std.specs.List.{list_all, position, position_or_len};
+ghost use Rattle.sbpf_text.specs.Lexing.{lines, is_blank, is_not_blank, is_line_byte, behind_blanks, first_word, behind_word, has_no_word, ends_with_colon, without_last};
+ghost use Rattle.call_text.specs.Words.{words};
 
-use hex::FromHexError;
 use std::alloc::{AllocError, Global};
 
 // The parts of a text between its line ends.
@@ -33,105 +32,74 @@ pub fn words(alloc: Global, line: &[u8]) -> Result<Vec<&[u8]>, AllocError>
 pub fn is_line(line: &[u8]) -> bool
     ensures { result ≡ list_all is_line_byte line.now }
 {
-    line.iter().all(|b| (32 <= *b && *b <= 126) || *b == b'\t')
+    line.iter()
+        .all(|b| (b' ' <= *b && *b <= b'~') || *b == b'\t')
 }
 
-fn is_digit(b: u8) -> bool
-    ensures { result ≡ is_digit b }
+fn find_word(text: &[u8]) -> Option<usize>
+    ensures { result ≡ position is_not_blank text.now }
 {
-    48 <= b && b <= 57
+    text.iter().position(|b| !is_blank(*b))
 }
 
-fn has_digits(word: &[u8]) -> bool
-    ensures { result ≡ list_all is_digit word.now }
+#[tactic(auto, using(crate::proofs::Cuts::position_or))]
+fn word_at(text: &[u8]) -> usize
+    ensures is { result ≡ position_or_len is_not_blank text.now }
+    ensures within { result ≤ length text.now }
 {
-    word.iter().all(|b| is_digit(*b))
+    find_word(text).unwrap_or(text.len())
 }
 
-fn is_decimal(word: &[u8]) -> bool
-    ensures { result ≡ is_decimal word.now }
+fn find_blank(text: &[u8]) -> Option<usize>
+    ensures { result ≡ position is_blank text.now }
 {
-    if !has_digits(word) {
-        return false;
-    }
+    text.iter().position(|b| is_blank(*b))
+}
+
+#[tactic(auto, using(crate::proofs::Cuts::position_or))]
+fn blank_at(text: &[u8]) -> usize
+    ensures is { result ≡ position_or_len is_blank text.now }
+    ensures within { result ≤ length text.now }
+{
+    find_blank(text).unwrap_or(text.len())
+}
+
+fn behind_blanks(text: &[u8]) -> &[u8]
+    ensures { result.now ≡ behind_blanks text.now }
+{
+    text.split_at(word_at(text)).1
+}
+
+// The first word, which is empty where there is none, and what stands behind it.
+pub fn cut_word(text: &[u8]) -> (&[u8], &[u8])
+    ensures word { result.0.now ≡ first_word text.now }
+    ensures rest { result.1.now ≡ behind_word text.now }
+{
+    let text = behind_blanks(text);
+    text.split_at(blank_at(text))
+}
+
+pub fn has_no_word(text: &[u8]) -> bool
+    ensures { result ≡ has_no_word text.now }
+{
+    let (word, _) = cut_word(text);
     match word {
+        [] => true,
+        _ => false,
+    }
+}
+
+pub fn ends_with_colon(word: &[u8]) -> bool
+    ensures { result ≡ ends_with_colon word.now }
+{
+    match word {
+        [.., b] => *b == b':',
         [] => false,
-        [_] => true,
-        [first, ..] => *first != b'0',
     }
 }
 
-// The number that some digits spell, where it is below 2^64.
-fn value_of(digits: &[u8]) -> Option<u64>
-    requires { list_all is_digit digits.now ≡ true }
-    ensures { result ≡ (if nat_lt (value_of digits.now) (2 ^ 64) then Some (value_of digits.now) else None) }
+pub fn without_last(word: &[u8]) -> &[u8]
+    ensures { result.now ≡ without_last word.now }
 {
-    let mut value = 0u64;
-    for digit in digits {
-        value = value
-            .checked_mul(10)?
-            .checked_add(u64::from(digit.saturating_sub(48)))?;
-    }
-    Some(value)
-}
-
-// A number in decimal digits.
-pub fn number(word: &[u8]) -> Option<u64>
-    ensures { result ≡ number word.now }
-{
-    if !is_decimal(word) {
-        return None;
-    }
-    value_of(word)
-}
-
-fn is_lane_byte(b: u8) -> bool
-    ensures { result ≡ is_lane_byte b }
-{
-    (97 <= b && b <= 122) || is_digit(b)
-}
-
-fn has_lane_bytes(name: &[u8]) -> bool
-    ensures { result ≡ list_all is_lane_byte name.now }
-{
-    name.iter().all(|b| is_lane_byte(*b))
-}
-
-// 1 to 16 lower-case letters and digits.
-fn is_lane(name: &[u8]) -> bool
-    ensures { result ≡ is_lane name.now }
-{
-    let len = name.len();
-    if len == 0 || len > 16 {
-        return false;
-    }
-    has_lane_bytes(name)
-}
-
-// The lane of a word that ends with a colon.
-pub fn lane_of(word: &[u8]) -> Option<&[u8]>
-    ensures lane { option_copied result ≡ lane_of word.now }
-    ensures form { IfSome result (λ name. IsTrue (is_lane name.now)) }
-{
-    match word {
-        [name @ .., b':'] => if is_lane(name) { Some(name) } else { None },
-        _ => None,
-    }
-}
-
-// The bytes of a word: none where it isn't of the form of bytes.
-pub fn bytes_of(alloc: Global, word: &[u8]) -> Result<Option<Vec<u8>>, AllocError>
-    ensures { IfOk result (λ found. option_map (λ v. v.items) found ≡ bytes_of word.now) }
-{
-    if word.starts_with(b"hex:") {
-        return match hex::decode(alloc, &word[4..]) {
-            Ok(bytes) => Ok(Some(bytes)),
-            Err(FromHexError::OutOfMemory) => Err(AllocError),
-            Err(_) => Ok(None),
-        };
-    }
-    if word.starts_with(b"text:") {
-        return Ok(Some(word[5..].to_vec(alloc)?));
-    }
-    Ok(None)
+    word.split_at(word.len().saturating_sub(1)).0
 }

@@ -1,7 +1,13 @@
 //! Scripts and lines as a user sees them.
-use crate::{ScriptErr, ScriptFault, ScriptKind, places_line, read_script, reply_line};
+use crate::{
+    FaultLine, ScriptErr, ScriptKind, TranscriptErr, places_line, read_script, read_transcript,
+    reply_line,
+};
 use edge_io::{Bytes, Text};
-use plain_files::{Call, Reply};
+use plain_files::{Call, CodeKind, Reply};
+use sbpf_insn::VerifyKind;
+use sbpf_text::{AsmFault, AsmKind};
+use std::alloc::{AllocError, Global};
 use std::test::Fail;
 
 #[test]
@@ -31,58 +37,182 @@ fn a_script_of_one_lane_is_read(rt: HostRuntime) -> Result<(), Fail> {
     Ok(())
 }
 
-#[test]
-fn the_first_wrong_line_is_named(rt: HostRuntime) {
-    let cases = [
-        ("a: jump f", 1),
-        ("\n; x\na: stat", 3),
-        ("a: stat f\nb: stat f\na: jump f", 2),
-        ("a: read f 00 1", 1),
-        ("a: read f 0 18446744073709551616", 1),
-        ("a: write f 0 hex:012", 1),
-        ("a: write f 0 0012", 1),
-        ("abcdefghijklmnopq: stat f", 1),
-        ("A: stat f", 1),
-        ("a : stat f", 1),
-        ("a: stat f\r\n", 1),
-        ("a: stat f ; why", 1),
-    ];
-    for (text, line) in cases {
-        let fault = ScriptFault {
-            line,
-            kind: ScriptKind::Unbuilt,
-        };
-        let found = read_script(rt.alloc(), text.as_bytes()).err();
-        assert_eq!(rt; found, Some(ScriptErr::Script(fault)), "{text}");
+// The kind and the line of the first fault of a text.
+fn fault_of(alloc: Global, text: &[u8]) -> Option<(ScriptKind, u32)> {
+    match read_script(alloc, text) {
+        Err(ScriptErr::Script(fault)) => Some((fault.kind, fault.line)),
+        _ => None,
     }
 }
 
 #[test]
-fn the_limits_are_kept(rt: HostRuntime) -> Result<(), Fail> {
-    let mut text = Vec::new(rt.alloc());
-    for _ in 0..10_000 {
-        text.extend_from_slice(b"a: stat f\n")?;
+fn the_first_wrong_line_is_named(rt: HostRuntime) {
+    let cases = [
+        ("a: jump f", ScriptKind::Line, 1),
+        ("\n; x\na: stat", ScriptKind::Line, 3),
+        ("a: stat f\nb: stat f\na: jump f", ScriptKind::Line, 3),
+        ("a: read f 00 1", ScriptKind::Number, 1),
+        ("a: read f 0 18446744073709551616", ScriptKind::Number, 1),
+        ("a: write f 0 hex:012", ScriptKind::Bytes, 1),
+        ("a: write f 0 0012", ScriptKind::Bytes, 1),
+        ("abcdefghijklmnopq: stat f", ScriptKind::Lane, 1),
+        ("A: stat f", ScriptKind::Lane, 1),
+        ("A: stat", ScriptKind::Line, 1),
+        (": stat f", ScriptKind::Lane, 1),
+        ("a:stat f", ScriptKind::Line, 1),
+        ("a : stat f", ScriptKind::Line, 1),
+        ("a: stat f\r\n", ScriptKind::Char, 1),
+        ("a: stat f ; why", ScriptKind::Line, 1),
+        ("a: stat f\0", ScriptKind::Char, 1),
+        ("; \u{80}", ScriptKind::Char, 1),
+        ("end", ScriptKind::Line, 1),
+        ("func x", ScriptKind::Line, 1),
+        ("func x\nend ; x", ScriptKind::Line, 1),
+        ("func x\nend\nfunc x\nend", ScriptKind::Name, 3),
+        ("func /\nend", ScriptKind::Name, 1),
+        ("a: load f func nope", ScriptKind::Func, 1),
+        ("a: load f code hex:95", ScriptKind::Bytes, 1),
+        ("a: load f data 95", ScriptKind::Line, 1),
+        ("a: stat f\nfault die 0 read 1", ScriptKind::Order, 2),
+        ("fault die 16 read 1", ScriptKind::Number, 1),
+        ("fault die 0 read 0", ScriptKind::Number, 1),
+        ("fault disk 0 read 1", ScriptKind::Line, 1),
+    ];
+    for (text, kind, line) in cases {
+        let found = fault_of(rt.alloc(), text.as_bytes());
+        assert_eq!(rt; found, Some((kind, line)), "{text}");
     }
+}
+
+#[test]
+fn broken_awaits_are_named(rt: HostRuntime) {
+    let cases = [
+        ("a: await b.1", ScriptKind::Await, 1),
+        ("a: stat f\nb: await a.2\nb: stat f", ScriptKind::Await, 2),
+        ("a: stat f\nb: await a.0\nb: stat f", ScriptKind::Await, 2),
+        ("a: stat f\nb: await a.01\nb: stat f", ScriptKind::Await, 2),
+        ("a: stat f\nb: await a1\nb: stat f", ScriptKind::Await, 2),
+        (
+            "a: stat f\nb: await a.1 a.1\nb: stat f",
+            ScriptKind::Line,
+            2,
+        ),
+        (
+            "a: stat f\nb: await a.1\nb: await a.1\nb: stat f",
+            ScriptKind::Await,
+            3,
+        ),
+        ("a: stat f\nb: await a.1\na: stat f", ScriptKind::Await, 2),
+        (
+            "a: stat f\nb: await a.1\nfunc x\nb: stat f\nend",
+            ScriptKind::Await,
+            2,
+        ),
+        ("a: stat f\nb: await a.1\nb: stat", ScriptKind::Line, 3),
+        ("a: stat f\nB: await a.1", ScriptKind::Lane, 2),
+    ];
+    for (text, kind, line) in cases {
+        let found = fault_of(rt.alloc(), text.as_bytes());
+        assert_eq!(rt; found, Some((kind, line)), "{text}");
+    }
+}
+
+#[test]
+fn awaits_blocks_and_faults_are_read(rt: HostRuntime) -> Result<(), Fail> {
+    let text =
+        b"fault copy 3 write 9\nfunc x\n mov r0, 8 ; eight\nexit\nend\na: load g func x\na: await a.1\na: sync\n";
+    let script = read_script(rt.alloc(), text)?;
+    let fault = FaultLine {
+        line: 1,
+        die: 3,
+        writing: true,
+        nth: 9,
+        copy: true,
+    };
+    assert!(rt; script.faults.as_slice() == [fault].as_slice());
+    let [lane] = script.lanes.as_slice() else {
+        panic!(rt; "there is one lane")
+    };
+    let [first, second] = lane.requests.as_slice() else {
+        panic!(rt; "there are two calls")
+    };
+    match &first.call {
+        Call::Load(_, code) => {
+            let bytes = [183, 0, 0, 0, 8, 0, 0, 0, 149, 0, 0, 0, 0, 0, 0, 0];
+            assert!(rt; code.as_slice() == bytes.as_slice());
+        }
+        _ => panic!(rt; "the first call loads"),
+    }
+    assert_eq!(rt; second.awaits, Some((0, 1)));
+    Ok(())
+}
+
+#[test]
+fn the_fault_of_a_block_has_its_line(rt: HostRuntime) {
+    let fault = AsmFault {
+        line: 3,
+        kind: AsmKind::Operand,
+    };
+    let found = read_script(rt.alloc(), b"func x\nexit\nmov r0\nend").err();
+    assert_eq!(rt; found, Some(ScriptErr::Asm(fault)));
+    let char = fault_of(rt.alloc(), b"func x\nmov r0\n\x80\nend");
+    assert_eq!(rt; char, Some((ScriptKind::Char, 3)));
+}
+
+// Lines that are all one text.
+fn lines_of(alloc: Global, line: &[u8], count: u32) -> Result<Vec<u8>, AllocError> {
+    let mut text = Vec::new(alloc);
+    for _ in 0..count {
+        text.extend_from_slice(line)?;
+    }
+    Ok(text)
+}
+
+#[test]
+fn at_most_10000_calls_are_read(rt: HostRuntime) -> Result<(), Fail> {
+    let mut text = lines_of(rt.alloc(), b"a: stat f\n", 10_000)?;
     let script = read_script(rt.alloc(), &text)?;
     assert_eq!(rt; script.order.len(), 10_000);
     text.extend_from_slice(b"; one more\na: stat")?;
-    let call = ScriptFault {
-        line: 10_002,
-        kind: ScriptKind::Limit,
-    };
     assert_eq!(rt;
-        read_script(rt.alloc(), &text).err(),
-        Some(ScriptErr::Script(call))
+        fault_of(rt.alloc(), &text),
+        Some((ScriptKind::Limit, 10_002))
     );
-    let long = vec![in rt.alloc(); b'\n'; (1 << 24) + 1]?;
-    let whole = ScriptFault {
-        line: 0,
-        kind: ScriptKind::Limit,
-    };
-    assert_eq!(rt;
-        read_script(rt.alloc(), &long).err(),
-        Some(ScriptErr::Script(whole))
-    );
+    Ok(())
+}
+
+#[test]
+fn at_most_32_lanes_are_read(rt: HostRuntime) -> Result<(), Fail> {
+    let mut text = Vec::new(rt.alloc());
+    for n in 0..32u8 {
+        text.extend_from_slice(b"l")?;
+        text.push(b'a' + n % 26)?;
+        text.push(b'0' + n / 26)?;
+        text.extend_from_slice(b": sync\n")?;
+    }
+    assert!(rt; read_script(rt.alloc(), &text).is_ok());
+    text.extend_from_slice(b"x: \x80")?;
+    assert_eq!(rt; fault_of(rt.alloc(), &text), Some((ScriptKind::Limit, 33)));
+    Ok(())
+}
+
+#[test]
+fn the_bytes_of_all_calls_have_a_limit(rt: HostRuntime) -> Result<(), Fail> {
+    let mut text = lines_of(rt.alloc(), b"a: append f fill:00*1048576\n", 256)?;
+    text.extend_from_slice(b"a: append f text:\na: append f text:x")?;
+    assert_eq!(rt; fault_of(rt.alloc(), &text), Some((ScriptKind::Limit, 258)));
+    Ok(())
+}
+
+#[test]
+fn texts_and_words_have_a_limit(rt: HostRuntime) -> Result<(), Fail> {
+    let long = lines_of(rt.alloc(), b"\n", (1 << 24) + 1)?;
+    assert_eq!(rt; fault_of(rt.alloc(), &long), Some((ScriptKind::Limit, 0)));
+    let mut word = lines_of(rt.alloc(), b"a: stat ", 1)?;
+    word.extend_from_slice(&lines_of(rt.alloc(), b"n", 128)?)?;
+    assert!(rt; read_script(rt.alloc(), &word).is_ok());
+    word.push(b'n')?;
+    assert_eq!(rt; fault_of(rt.alloc(), &word), Some((ScriptKind::Name, 1)));
     Ok(())
 }
 
@@ -99,5 +229,83 @@ fn lines_of_a_transcript_are_printed(rt: HostRuntime) -> Result<(), Fail> {
     assert!(rt; refused.as_str() == "#9 a.6 appendonly\n");
     let places = places_line(rt.alloc(), 1, 0, 2, 135)?;
     assert!(rt; places.as_str() == "places host=1 drive=0 reads=2 writes=135\n");
+    Ok(())
+}
+
+#[test]
+fn replies_of_functions_are_printed(rt: HostRuntime) -> Result<(), Fail> {
+    let lane = Text::new(String::from_str(rt.alloc(), "a")?);
+    let trap = Reply::TrapAccess {
+        address: 0x1_0000_0ABC,
+        size: 8,
+        slot: 3,
+    };
+    let trap = reply_line(rt.alloc(), 1, &lane, 1, &trap)?;
+    assert!(rt; trap.as_str() == "#1 a.1 trap access 0x100000abc 8 3\n");
+    let bad = Reply::BadCode {
+        kind: CodeKind::Verify(VerifyKind::Middle),
+        slot: 0,
+    };
+    let bad = reply_line(rt.alloc(), 2, &lane, 2, &bad)?;
+    assert!(rt; bad.as_str() == "#2 a.2 badcode middle 0\n");
+    Ok(())
+}
+
+#[test]
+fn a_transcript_is_read(rt: HostRuntime) -> Result<(), Fail> {
+    let script = read_script(
+        rt.alloc(),
+        b"a: stat f\nb: read f 0 9\na: readl f 0 1 g 9 8 hex:",
+    )?;
+    let text =
+        b"#1 a.1 len 7\n#2 b.1 data -\n#3 a.2 trap access 0xff 8 2\nplaces host=1 drive=0 reads=2 writes=3";
+    let transcript = read_transcript(rt.alloc(), text, &script)?;
+    let [first, second, third] = transcript.entries.as_slice() else {
+        panic!(rt; "there are three replies")
+    };
+    assert!(rt; matches!(first, (0, 1, Reply::Len(7))));
+    assert!(rt; matches!(second, (1, 1, Reply::DataBytes(_))));
+    assert!(rt;
+        matches!(
+            third,
+            (
+                0,
+                2,
+                Reply::TrapAccess {
+                    address: 255,
+                    size: 8,
+                    slot: 2
+                }
+            )
+        )
+    );
+    Ok(())
+}
+
+#[test]
+fn the_first_refused_line_is_named(rt: HostRuntime) -> Result<(), Fail> {
+    let script = read_script(rt.alloc(), b"a: stat f\nb: read f 0 9")?;
+    let cases = [
+        ("", 1),
+        ("\n", 1),
+        ("#1 a.1 len 7\n", 2),
+        ("#2 a.1 len 7", 1),
+        ("#1 a.1 len 07", 1),
+        ("#1 a.1  len 7", 1),
+        ("#1 a.1 len 18446744073709551616", 1),
+        ("#1 a.4294967296 len 7", 1),
+        ("#1 a.0 len 7", 1),
+        ("#1 c.1 len 7", 1),
+        ("#1 a.1 id 7", 1),
+        ("#1 b.1 data", 1),
+        ("#1 b.1 data 0A", 1),
+        ("#1 b.1 data 0", 1),
+        ("#1 a.9 id 7\nplaces host=0 drive=0 reads=0", 2),
+        ("places host=0 drive=0 reads=0 writes=0\n\n", 2),
+    ];
+    for (text, line) in cases {
+        let found = read_transcript(rt.alloc(), text.as_bytes(), &script).err();
+        assert_eq!(rt; found, Some(TranscriptErr::Form { line }), "{text}");
+    }
     Ok(())
 }
