@@ -1,0 +1,5 @@
+pub mod Numbers
+pub mod Replies
+pub mod Faults
+pub mod Awaits
+pub mod Leaving

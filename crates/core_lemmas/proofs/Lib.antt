@@ -1,0 +1,9 @@
+pub mod Words
+pub mod Lanes
+pub mod Calls
+pub mod Dies
+pub mod Spans
+pub mod Finds
+pub mod Blocks
+pub mod Gathering
+pub mod Views
