@@ -66,6 +66,7 @@ usage_exact words before after status.Usage cause none = refl
 usage_exact words before after status.Absent cause none = absurd (asks_for_none words (IsAbsent before after) none cause)
 usage_exact words before after status.ReadFault cause none = absurd (asks_for_none words (IsUnread before after) none cause)
 usage_exact words before after status.BadInput cause none = absurd (asks_for_none words (IsRefused status.BadInput before after) none cause)
+usage_exact words before after status.Differs cause none = absurd (asks_for_none words (IsRefused status.Differs before after) none cause)
 usage_exact words before after status.WriteFault cause none = absurd (asks_for_none words (IsUnfinished before after) none cause)
 usage_exact words before after status.NoMemory cause none = absurd (asks_for_none words (IsForgone before after) none cause)
 
@@ -78,6 +79,9 @@ absent_exact words before after status.Absent command name cause asked is wants 
 absent_exact words before after status.ReadFault command name cause asked is wants lacks = inr (inr refl)
 absent_exact words before after status.BadInput command name cause asked is wants lacks =
     let refused = at_command words (IsRefused status.BadInput before after) command asked cause in
+    absurd (wants_no_finish before.names (work_of command) name (refuses refused.refusal) is wants lacks refused.comes)
+absent_exact words before after status.Differs command name cause asked is wants lacks =
+    let refused = at_command words (IsRefused status.Differs before after) command asked cause in
     absurd (wants_no_finish before.names (work_of command) name (refuses refused.refusal) is wants lacks refused.comes)
 absent_exact words before after status.WriteFault command name cause asked is wants lacks =
     let unfinished = at_command words (IsUnfinished before after) command asked cause in
@@ -104,6 +108,9 @@ refused_exact words before after status.Absent command refusal cause asked is co
 refused_exact words before after status.ReadFault command refusal cause asked is comes = inr (inr refl)
 refused_exact words before after status.BadInput command refusal cause asked is comes =
     let refused = at_command words (IsRefused status.BadInput before after) command asked cause in
+    inl (sym refused.status ∙ ap status_of (one_refusal before.names (work_of command) refused.refusal refusal is refused.comes comes))
+refused_exact words before after status.Differs command refusal cause asked is comes =
+    let refused = at_command words (IsRefused status.Differs before after) command asked cause in
     inl (sym refused.status ∙ ap status_of (one_refusal before.names (work_of command) refused.refusal refusal is refused.comes comes))
 refused_exact words before after status.WriteFault command refusal cause asked is comes =
     let unfinished = at_command words (IsUnfinished before after) command asked cause in
@@ -133,6 +140,9 @@ complete words before after status.ReadFault command finish cause asked is comes
     absurd (calm (at_command words (IsUnread before after) command asked cause).failed)
 complete words before after status.BadInput command finish cause asked is comes calm quiet =
     let refused = at_command words (IsRefused status.BadInput before after) command asked cause in
+    inl (sym refused.status ∙ ap status_at (comes_once before.names (work_of command) (refuses refused.refusal) finish is refused.comes comes))
+complete words before after status.Differs command finish cause asked is comes calm quiet =
+    let refused = at_command words (IsRefused status.Differs before after) command asked cause in
     inl (sym refused.status ∙ ap status_at (comes_once before.names (work_of command) (refuses refused.refusal) finish is refused.comes comes))
 complete words before after status.WriteFault command finish cause asked is comes calm quiet =
     let cut = (at_command words (IsUnfinished before after) command asked cause).2 in

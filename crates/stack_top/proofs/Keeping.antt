@@ -1,9 +1,14 @@
 -- Which commands leave the room as it is.
-use Rattle.std.proofs.Common.{◌≡◌, inl, inr, ℕ, List, ◌∷◌, Bool, true, false, bytes_eq, Option, Some, None, Result, Ok, Err, refl, ap, ◌∙◌, sym, subst}
+use Rattle.std.proofs.Common.{[], ◌≡◌, inl, inr, ℕ, List, ◌∷◌, Bool, true, false, bytes_eq, Option, Some, None, Result, Ok, Err, refl, ap, ◌∙◌, sym, subst}
 use Rattle.std.specs.Prelude.{codes, if◌then◌else◌}
 use Rattle.edge_io.specs.Edges.{Names}
 use Rattle.call_text.specs.declared.script.Script.{Script}
-use Rattle.call_text.specs.declared.faults.ScriptFault.{ScriptFault}
+use Rattle.call_text.specs.Order.{requests}
+use Rattle.plain_files.specs.declared.calls.Reply.{Reply}
+use Rattle.call_text.specs.Transcripts.{read_transcript}
+use Rattle.history_check.specs.declared.verdict.Verdict.{Verdict}
+use Rattle.history_check.specs.declared.verdict.Verdict.TheVariants.{Legal, Differs, Order}
+use Rattle.history_check.specs.Verdicts.{verdict}
 use Rattle.call_text.specs.Scripts.{read_script}
 use Rattle.sbpf_insn.specs.declared.insn.Insn.{Insn}
 use Rattle.sbpf_insn.specs.declared.fault.VerifyFault.{VerifyFault}
@@ -24,10 +29,13 @@ use Rattle.stack_top.specs.Commands.{work_of, out_of}
 use Rattle.stack_top.specs.Moments.{Edge}
 use Rattle.stack_top.specs.Objects.{shown, accepted_line}
 use Rattle.stack_top.specs.Performed.{IsCutShort, IsLeftOff}
-use Rattle.stack_top.specs.Scripts.{soloed}
+use Rattle.stack_top.specs.declared.refusal.Refusal.{Refusal}
+use Rattle.stack_top.specs.Checking.{told, checked, reads_transcript}
+use Rattle.stack_top.specs.Scripts.{script_in, with_script}
+use Rattle.stack_top.specs.Transcripts.{first_state}
 use Rattle.stack_top.specs.Top.{Cause, Keeps, IsWritten, IsDone, IsUnfinished, IsForgone}
 use Rattle.stack_top.specs.Words.{command_of}
-use Rattle.stack_top.specs.Works.{Finish, ComesToDo, AreActs}
+use Rattle.stack_top.specs.Works.{Finish, transcribes, Work, ends, ComesTo, ComesToDo, AreActs}
 use Rattle.stack_top.proofs.Exactness.{at_command}
 use Rattle.stack_top.proofs.ActsDone.{both_false, front_reads_only, stored-none, fails_reads_only}
 
@@ -50,9 +58,19 @@ shown_reads_only : (print : List Insn → List ℕ) (bytes : List ℕ) (read : R
 shown_reads_only print bytes (Ok code) acts are = ap has_store are
 shown_reads_only print bytes (Err e) acts are = absurd are
 
-solo_reads_only : (read : Result Script ScriptFault) (acts : List Act) → AreActs (soloed read) acts → has_store acts ≡ false
-solo_reads_only (Ok script) acts are = ap has_store are.2
-solo_reads_only (Err fault) acts are = absurd are
+-- a work behind a script, where the work with any script reads only
+script_reads_only : (told : Option Names) (read : Result Script Refusal) (next : Script → Work) (finish : Finish) (acts : List Act) → ComesTo told (with_script read next) finish → AreActs finish acts → ((script : Script) → ComesTo told (next script) finish → has_store acts ≡ false) → has_store acts ≡ false
+script_reads_only told (Ok script) next finish acts comes are reads = reads script comes
+script_reads_only told (Err refusal) next finish acts comes are reads = let P : Finish → Type 0 = λ f. AreActs f acts in absurd (subst P (sym comes) are)
+
+told_reads_only : (verdict : Verdict) (acts : List Act) → AreActs (told verdict) acts → has_store acts ≡ false
+told_reads_only (Legal calls) acts are = ap has_store are
+told_reads_only (Differs number expected) acts are = absurd are
+told_reads_only (Order number) acts are = absurd are
+
+checked_reads_only : (script : Script) (read : Result (List (ℕ × ℕ × Reply)) ℕ) (acts : List Act) → AreActs (checked script read) acts → has_store acts ≡ false
+checked_reads_only script (Ok entries) acts are = told_reads_only (verdict (requests script) first_state [] entries) acts are
+checked_reads_only script (Err line) acts are = absurd are
 
 -- the acts of a command without a name to write under
 reads_only : (told : Option Names) (asked : Command) (acts : List Act) → out_of asked ≡ None → ComesToDo told (work_of asked) acts → has_store acts ≡ false
@@ -65,9 +83,14 @@ reads_only told (command.Disasm object) acts none is =
 reads_only told (command.Verify object) acts none is =
     let P : Finish → Type 0 = λ f. AreActs f acts in
     shown_reads_only accepted_line is.comes.0 (object_read is.comes.0) acts (subst P (sym is.comes.2) is.are)
+reads_only told (command.Check script transcript) acts none is =
+    let P : Finish → Type 0 = λ f. AreActs f acts in
+    script_reads_only told (script_in (read_script is.comes.0)) (reads_transcript transcript) is.finish acts is.comes.2 is.are
+    (λ s comes. checked_reads_only s (read_transcript comes.0 s.lanes) acts (subst P (sym comes.2) is.are))
 reads_only told (command.Solo script) acts none is =
     let P : Finish → Type 0 = λ f. AreActs f acts in
-    solo_reads_only (read_script is.comes.0) acts (subst P (sym is.comes.2) is.are)
+    script_reads_only told (script_in (read_script is.comes.0)) (λ s. ends (transcribes s)) is.finish acts is.comes.2 is.are
+    (λ s comes. let are : AreActs (transcribes s) acts = subst P (sym comes) is.are in ap has_store are.2)
 
 -- acts that were cut short, and that were left off
 cut_reads_only : (before after : Edge) (acts : List Act) → has_store acts ≡ false → IsCutShort before after acts → after.names ≡ before.names
@@ -100,6 +123,7 @@ kept words before after status.Usage asked cause same is none = same (λ written
 kept words before after status.Absent asked cause same is none = same (λ written. written)
 kept words before after status.ReadFault asked cause same is none = same (λ written. written)
 kept words before after status.BadInput asked cause same is none = same (λ written. written)
+kept words before after status.Differs asked cause same is none = same (λ written. written)
 
 -- the room keeps its names, where each status has its cause
 pub keeps : (words : List (List ℕ)) (before after : Edge) (answer : Status) → Cause words before after answer → (¬ IsWritten answer → after.names ≡ before.names) → Keeps words before.names after.names answer

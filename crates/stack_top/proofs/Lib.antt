@@ -3,8 +3,5 @@ pub mod Causes
 pub mod Exactness
 pub mod Histories
 pub mod Keeping
-pub mod Places
-pub mod Puts
 pub mod Runs
 pub mod Walks
-pub mod Writes

@@ -1,4 +1,3 @@
-pub mod Answers
 pub mod Transcripts
 pub mod Statuses
 pub mod Words
@@ -11,5 +10,6 @@ pub mod Performed
 pub mod Assembling
 pub mod Objects
 pub mod Scripts
+pub mod Checking
 pub mod Commands
 pub mod Top

@@ -8,6 +8,8 @@ use Rattle.sbpf_text.specs.declared.fault.AsmKind.{AsmKind}
 use Rattle.sbpf_text.specs.declared.fault.AsmKind.TheVariants as asm
 use Rattle.call_text.specs.declared.faults.ScriptKind.{ScriptKind}
 use Rattle.call_text.specs.declared.faults.ScriptKind.TheVariants as script
+use Rattle.call_text.specs.Print.{reply_text}
+use Rattle.plain_files.specs.declared.calls.Reply.{Reply}
 use Rattle.stack_top.specs.declared.status.Status.{Status}
 use Rattle.stack_top.specs.declared.status.Status.TheVariants as status
 use Rattle.stack_top.specs.declared.refusal.ObjectFault.{ObjectFault}
@@ -47,7 +49,15 @@ asm_word asm.Range = codes "range"
 
 abbrev pub script_word : ScriptKind → List ℕ
 script_word script.Limit = codes "limit"
-script_word script.Unbuilt = codes "unbuilt"
+script_word script.Char = codes "char"
+script_word script.Line = codes "line"
+script_word script.Lane = codes "lane"
+script_word script.Order = codes "order"
+script_word script.Number = codes "number"
+script_word script.Bytes = codes "bytes"
+script_word script.Name = codes "name"
+script_word script.Func = codes "func"
+script_word script.Await = codes "await"
 
 -- ---- the last lines
 
@@ -73,6 +83,16 @@ object_line kind place = codes "badobject " ++ kind ++ codes " " ++ decimal plac
 abbrev pub script_line : List ℕ → ℕ → List ℕ
 script_line kind line = codes "badscript " ++ kind ++ codes " " ++ decimal line ++ codes "\n"
 
+abbrev pub transcript_line : ℕ → List ℕ
+transcript_line line = codes "badtranscript " ++ decimal line ++ codes "\n"
+
+-- the number at which a transcript differs, and the reply that was expected there, or that the order is wrong
+abbrev pub differs_line : ℕ → Reply → List ℕ
+differs_line number expected = codes "differs " ++ decimal number ++ codes " expected " ++ reply_text expected ++ codes "\n"
+
+abbrev pub order_line : ℕ → List ℕ
+order_line number = codes "differs " ++ decimal number ++ codes " order\n"
+
 abbrev pub object_fault_line : ObjectFault → List ℕ
 object_fault_line (object.Magic bytes) = object_line (codes "magic") bytes
 object_fault_line (object.Length bytes) = object_line (codes "length") bytes
@@ -86,6 +106,10 @@ refusal_line (refusal.ReadFault name) = read_fault_line name
 refusal_line (refusal.BadText fault) = text_line (asm_word fault.kind) fault.line
 refusal_line (refusal.BadObject fault) = object_fault_line fault
 refusal_line (refusal.BadScript fault) = script_line (script_word fault.kind) fault.line
+refusal_line (refusal.BadDie line) = script_line (codes "die") line
+refusal_line (refusal.BadTranscript line) = transcript_line line
+refusal_line (refusal.Differs number expected) = differs_line number expected
+refusal_line (refusal.Disordered number) = order_line number
 refusal_line refusal.NoMemory = []
 
 -- the status of a refusal
@@ -95,4 +119,8 @@ status_of (refusal.ReadFault name) = status.ReadFault
 status_of (refusal.BadText fault) = status.BadInput
 status_of (refusal.BadObject fault) = status.BadInput
 status_of (refusal.BadScript fault) = status.BadInput
+status_of (refusal.BadDie line) = status.BadInput
+status_of (refusal.BadTranscript line) = status.BadInput
+status_of (refusal.Differs number expected) = status.Differs
+status_of (refusal.Disordered number) = status.Differs
 status_of refusal.NoMemory = status.NoMemory

@@ -10,4 +10,5 @@ code_of status.Absent = 2
 code_of status.ReadFault = 3
 code_of status.BadInput = 5
 code_of status.WriteFault = 7
+code_of status.Differs = 9
 code_of status.NoMemory = 10

@@ -10,9 +10,9 @@ use Rattle.call_text.specs.declared.script.Script.{Script}
 use Rattle.call_text.specs.Order.{requests, names}
 use Rattle.call_text.specs.Print.{print, no_counts}
 
--- the machine at the start: no files, ids from 1, and the 1,024 data blocks of an empty drive
+-- the machine at the start: no files, ids from 1, no functions, and the 1,024 data blocks of an empty drive
 abbrev pub first_state : State
-first_state = record { files = []; next = 1; capacity = 1024 }
+first_state = record { files = []; next = 1; functions = []; capacity = 1024 }
 
 -- a reply to one call, and the state after it: those of the machine, or want of memory and the state as it was
 abbrev pub Replies : State → Call → Reply → State → Type 0

@@ -23,6 +23,12 @@ abbrev pub verify_of : List (List ℕ) → Option Command
 verify_of (object ∷ []) = if is_file_word object then Some (command.Verify object) else None
 verify_of _ = None
 
+-- `- SCRIPT TRANSCRIPT`, behind `check`
+abbrev pub check_of : List (List ℕ) → Option Command
+check_of (image ∷ script ∷ transcript ∷ []) =
+    if bytes_eq image (codes "-") && is_file_word script && is_file_word transcript then Some (command.Check script transcript) else None
+check_of _ = None
+
 -- `- SCRIPT -`, behind `solo`
 abbrev pub solo_of : List (List ℕ) → Option Command
 solo_of (image ∷ script ∷ out ∷ []) =
@@ -36,5 +42,6 @@ command_of (verb ∷ rest) =
     if bytes_eq verb (codes "asm") then asm_of rest
     else if bytes_eq verb (codes "disasm") then disasm_of rest
     else if bytes_eq verb (codes "verify") then verify_of rest
+    else if bytes_eq verb (codes "check") then check_of rest
     else if bytes_eq verb (codes "solo") then solo_of rest
     else None

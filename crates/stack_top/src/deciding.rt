@@ -6,6 +6,7 @@ ghost use Rattle.stack_top.specs.Decided.{IsDecided};
 
 use crate::acts::Act;
 use crate::assembling::asm;
+use crate::checking::check;
 use crate::objects::{disasm, verify};
 use crate::refusal::Refusal;
 use crate::scripts::solo;
@@ -27,6 +28,7 @@ pub fn decided<R: Room>(
         Command::Asm { source, out } => asm(alloc, room, source, out),
         Command::Disasm { object } => disasm(alloc, room, object),
         Command::Verify { object } => verify(alloc, room, object),
+        Command::Check { script, transcript } => check(alloc, room, script, transcript),
         Command::Solo { script } => solo(alloc, room, script),
     }
 }

@@ -3,12 +3,10 @@
 
 mod acts;
 mod assembling;
-mod contents;
+mod checking;
 mod deciding;
-mod files;
 mod objects;
 mod performing;
-pub mod plain;
 mod printing;
 mod reading;
 mod refusal;

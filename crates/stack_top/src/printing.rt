@@ -1,11 +1,12 @@
 //! The last lines.
 ghost use Rattle.std.specs.Prelude.{◌≡◌, ◌≤◌, ◌++◌, codes, decimal, IfOk, string_bytes};
 ghost use Rattle.stack_top.specs.Moments.{Tells};
-ghost use Rattle.stack_top.specs.Refusals.{insn_word, verify_word, asm_word, script_word, text_line, object_line, script_line, object_fault_line, refusal_line, write_fault_line};
+ghost use Rattle.stack_top.specs.Refusals.{insn_word, verify_word, asm_word, script_word, text_line, object_line, script_line, differs_line, object_fault_line, refusal_line, write_fault_line};
 
 use crate::refusal::{ObjectFault, Refusal};
-use call_text::{ScriptFault, ScriptKind};
+use call_text::{ScriptFault, ScriptKind, reply_text};
 use edge_io::{Sink, put_all};
+use plain_files::Reply;
 use sbpf_insn::{InsnFault, InsnKind, VerifyFault, VerifyKind};
 use sbpf_text::{AsmFault, AsmKind};
 use std::alloc::{AllocError, Global};
@@ -58,7 +59,15 @@ fn script_word(kind: ScriptKind) -> &'static str
 {
     match kind {
         ScriptKind::Limit => "limit",
-        ScriptKind::Unbuilt => "unbuilt",
+        ScriptKind::Char => "char",
+        ScriptKind::Line => "line",
+        ScriptKind::Lane => "lane",
+        ScriptKind::Order => "order",
+        ScriptKind::Number => "number",
+        ScriptKind::Bytes => "bytes",
+        ScriptKind::Name => "name",
+        ScriptKind::Func => "func",
+        ScriptKind::Await => "await",
     }
 }
 
@@ -105,6 +114,16 @@ fn object_fault_line(alloc: Global, fault: ObjectFault) -> Result<String, AllocE
     }
 }
 
+fn differs_line(alloc: Global, number: u64, expected: &Reply) -> Result<String, AllocError>
+    ensures { IfOk result (λ text. string_bytes text ≡ differs_line number expected.now) }
+{
+    let reply = reply_text(alloc, expected)?;
+    let mut line = format!(in alloc; "differs {number} expected ")?;
+    line.push_str(reply.as_str())?;
+    line.push_str("\n")?;
+    Ok(line)
+}
+
 // The last line of a refusal.
 pub fn refusal_line(alloc: Global, refusal: &Refusal) -> Result<String, AllocError>
     ensures { IfOk result (λ line. string_bytes line ≡ refusal_line refusal.now) }
@@ -115,6 +134,10 @@ pub fn refusal_line(alloc: Global, refusal: &Refusal) -> Result<String, AllocErr
         Refusal::BadText(fault) => text_line(alloc, *fault),
         Refusal::BadObject(fault) => object_fault_line(alloc, *fault),
         Refusal::BadScript(fault) => script_line(alloc, *fault),
+        Refusal::BadDie { line } => format!(in alloc; "badscript die {line}\n"),
+        Refusal::BadTranscript { line } => format!(in alloc; "badtranscript {line}\n"),
+        Refusal::Differs { number, expected } => differs_line(alloc, *number, expected),
+        Refusal::Disordered { number } => format!(in alloc; "differs {number} order\n"),
         Refusal::NoMemory => Ok(String::new(alloc)),
     }
 }

@@ -6,6 +6,7 @@ ghost use Rattle.stack_top.specs.declared.refusal.Refusal.TheVariants as refusal
 use crate::status::Status;
 use call_text::ScriptFault;
 use edge_io::Text;
+use plain_files::Reply;
 use sbpf_insn::{InsnFault, VerifyFault};
 use sbpf_text::AsmFault;
 use std::alloc::AllocError;
@@ -36,6 +37,14 @@ pub enum Refusal {
     BadObject(ObjectFault),
     /// The script is wrong.
     BadScript(ScriptFault),
+    /// A line of the script, this one, has a fault of a die that the drive lacks.
+    BadDie { line: u32 },
+    /// A line of the transcript, this one, is refused.
+    BadTranscript { line: u32 },
+    /// The transcript has another reply than this one at a number.
+    Differs { number: u64, expected: Reply },
+    /// The transcript has another call at a number than may stand there, or none where one is left.
+    Disordered { number: u64 },
     /// Memory was wanting.
     NoMemory,
 }
@@ -55,7 +64,12 @@ pub fn status_of(refusal: &Refusal) -> Status
     match refusal {
         Refusal::Absent(_) => Status::Absent,
         Refusal::ReadFault(_) => Status::ReadFault,
-        Refusal::BadText(_) | Refusal::BadObject(_) | Refusal::BadScript(_) => Status::BadInput,
+        Refusal::BadText(_)
+        | Refusal::BadObject(_)
+        | Refusal::BadScript(_)
+        | Refusal::BadDie { .. }
+        | Refusal::BadTranscript { .. } => Status::BadInput,
+        Refusal::Differs { .. } | Refusal::Disordered { .. } => Status::Differs,
         Refusal::NoMemory => Status::NoMemory,
     }
 }

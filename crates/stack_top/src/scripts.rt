@@ -1,25 +1,59 @@
-//! `solo - SCRIPT -`: the calls of a script, in line order on one thread.
-ghost use Rattle.std.specs.Prelude.{◌≡◌, ◌≤◌};
+//! Scripts by their names, and `solo - SCRIPT -`: the calls of a script, in line order on one thread.
+ghost use Rattle.std.specs.Prelude.{◌≡◌, ◌≤◌, IfOk, IfErr, Err};
+ghost use Rattle.call_text.specs.declared.script.Script.{Script};
+ghost use Rattle.call_text.specs.Order.{IsOrdered};
 ghost use Rattle.call_text.specs.Scripts.{read_script};
-ghost use Rattle.stack_top.specs.Decided.{IsFinished, IsDecided};
-ghost use Rattle.stack_top.specs.Scripts.{soloed, solo_work};
+ghost use Rattle.stack_top.specs.Decided.{IsScript, IsHeldScript, IsFinished, IsDecided};
+ghost use Rattle.stack_top.specs.Scripts.{script_in, reads_script, solo_work};
+ghost use Rattle.stack_top.specs.Works.{Work, transcribes};
 
 use crate::acts::{Act, print};
 use crate::reading::read_named;
 use crate::refusal::Refusal;
 use crate::solo::transcript;
-use call_text::{ScriptErr, read_script};
+use call_text::{Script, ScriptErr, read_script};
 use edge_io::{Listed, Room, Text};
 use std::alloc::Global;
 
-fn soloed(alloc: Global, bytes: &[u8]) -> Result<Listed<Act>, Refusal>
-    ensures { IsFinished (soloed (read_script bytes.now)) result }
+// The script of bytes, whose `fault` lines name no die.
+fn script_in(alloc: Global, bytes: &[u8]) -> Result<Script, Refusal>
+    ensures script { IsScript (script_in (read_script bytes.now)) result }
+    ensures ordered { IfOk result IsOrdered }
 {
-    match read_script(alloc, bytes) {
-        Ok(script) => Ok(print(alloc, Text::new(transcript(alloc, &script)?))?),
-        Err(ScriptErr::Script(fault)) => Err(Refusal::BadScript(fault)),
-        Err(ScriptErr::NoMemory) => Err(Refusal::NoMemory),
+    let script = match read_script(alloc, bytes) {
+        Ok(script) => script,
+        Err(ScriptErr::Script(fault)) => return Err(Refusal::BadScript(fault)),
+        Err(ScriptErr::Asm(fault)) => return Err(Refusal::BadText(fault)),
+        Err(ScriptErr::NoMemory) => return Err(Refusal::NoMemory),
+    };
+    if let [first, ..] = script.faults.as_slice() {
+        return Err(Refusal::BadDie { line: first.line });
     }
+    Ok(script)
+}
+
+// The script that the room holds under a name.
+pub fn read_named_script<R: Room>(
+    alloc: Global,
+    room: &mut R,
+    name: &Text,
+) -> Result<Script, Refusal>
+    ensures ok { IfOk result (IsHeldScript (R.names room.old) name.now) }
+    ensures ordered { IfOk result IsOrdered }
+    ensures err { IfErr result (λ refusal. (next : Script → Work) → IsDecided (R.names room.old) (R.faults room.old) (R.faults room.new) (reads_script name.now next) (Err refusal)) }
+    ensures same { R.names room.new ≡ R.names room.old }
+    ensures later { R.faults room.old ≤ R.faults room.new }
+{
+    let bytes = read_named(alloc, room, name)?;
+    script_in(alloc, &bytes)
+}
+
+fn transcribed(alloc: Global, script: &Script) -> Result<Listed<Act>, Refusal>
+    requires { IsOrdered script.now }
+    ensures { IsFinished (transcribes script.now) result }
+{
+    let text = transcript(alloc, script)?;
+    Ok(print(alloc, Text::new(text))?)
 }
 
 // The acts of `solo - SCRIPT -`.
@@ -28,6 +62,6 @@ pub fn solo<R: Room>(alloc: Global, room: &mut R, name: &Text) -> Result<Listed<
     ensures same { R.names room.new ≡ R.names room.old }
     ensures later { R.faults room.old ≤ R.faults room.new }
 {
-    let bytes = read_named(alloc, room, name)?;
-    soloed(alloc, &bytes)
+    let script = read_named_script(alloc, room, name)?;
+    transcribed(alloc, &script)
 }

@@ -11,10 +11,12 @@ pub enum Status {
     Absent,
     /// A read of the room failed.
     ReadFault,
-    /// The text, the object or the script is wrong.
+    /// The text, the object, the script or the transcript is wrong.
     BadInput,
     /// A write to the room or to the sink failed.
     WriteFault,
+    /// The transcript is no legal history of the script.
+    Differs,
     /// Memory was wanting.
     NoMemory,
 }
@@ -34,6 +36,7 @@ impl Status {
             Status::ReadFault => 3,
             Status::BadInput => 5,
             Status::WriteFault => 7,
+            Status::Differs => 9,
             Status::NoMemory => 10,
         }
     }

@@ -1,7 +1,5 @@
-use crate::plain::Plain;
 use crate::{Status, stack_main, stack_quiet};
 use edge_io::{Bytes, MemRoom, MemSink, Room, Text};
-use plain_files::{Call, Reply, Word};
 use std::alloc::{AllocError, Global};
 use std::test::Fail;
 
@@ -115,13 +113,34 @@ fn refusals_have_their_last_lines(rt: HostRuntime) -> Result<(), Fail> {
             "solo - S -",
             "a: jump f\n",
             Status::BadInput,
-            "badscript unbuilt 1\n",
+            "badscript line 1\n",
         ),
         (
             "solo - S -",
-            "a: stat f\n; b\nb: stat f\n",
+            "A: stat f\n",
             Status::BadInput,
-            "badscript unbuilt 3\n",
+            "badscript lane 1\n",
+        ),
+        (
+            "solo - S -",
+            "func x\n  exit\n  mov r11, 0\nend\n",
+            Status::BadInput,
+            "badtext register 3\n",
+        ),
+        (
+            "solo - S -",
+            "; two\nfault die 1 read 1\nfault copy 0 write 2\n",
+            Status::BadInput,
+            "badscript die 2\n",
+        ),
+        ("check - S", "", Status::Usage, "usage\n"),
+        ("check S S S", "", Status::Usage, "usage\n"),
+        ("check - S none", "", Status::Absent, "absent none\n"),
+        (
+            "check - S S",
+            "; nothing\n",
+            Status::BadInput,
+            "badtranscript 1\n",
         ),
     ] {
         let (answer, out) = told(alloc, line, script.as_bytes(), Vec::new(alloc))?;
@@ -167,28 +186,83 @@ fn a_failed_write_leaves_a_front(rt: HostRuntime) -> Result<(), Fail> {
 }
 
 #[test]
-fn the_machine_answers_calls(rt: HostRuntime) -> Result<(), Fail> {
+fn calls_of_every_kind_are_answered(rt: HostRuntime) -> Result<(), Fail> {
     let alloc = rt.alloc();
-    let word = || Word::of(b"f").ok_or("a word");
-    let mut plain = Plain::new(alloc, 2);
-    assert!(rt; matches!(plain.answer(&Call::Create(word()?))?, Reply::Id(1)));
-    let bytes = Bytes::new(vec![in alloc; 7; 4097]?);
-    assert!(rt; matches!(plain.answer(&Call::Write(word()?, 0, bytes))?, Reply::Done));
-    let bytes = Bytes::new(vec![in alloc; 8; 4096]?);
-    assert!(rt;
-        matches!(
-            plain.answer(&Call::Write(word()?, 4097, bytes))?,
-            Reply::NoSpace
-        )
-    );
-    let bytes = Bytes::new(vec![in alloc; 8; 4095]?);
-    assert!(rt;
-        matches!(
-            plain.answer(&Call::Write(word()?, 4097, bytes))?,
-            Reply::Done
-        )
-    );
-    assert!(rt; matches!(plain.answer(&Call::Stat(word()?))?, Reply::Len(8192)));
+    let appended =
+        "a: create f\na: append f text:ab\na: append f hex:\na: append f text:c\na: seal f\na: write f 0 text:x\na: append f text:d\na: trunc f 0\na: read f 0 9\n";
+    let appended_transcript =
+        b"#1 a.1 id 1\n#2 a.2 at 0\n#3 a.3 at 2\n#4 a.4 at 2\n#5 a.5 ok\n#6 a.6 appendonly\n#7 a.7 at 3\n#8 a.8 appendonly\n#9 a.9 data 61626364\nplaces host=0 drive=0 reads=0 writes=0\n".as_slice();
+    let cut =
+        "a: create f\na: write f 0 fill:ff*5000\na: trunc f 1\nb: await a.3\nb: write f 5000 hex:aa\nb: read f 0 3\na: await b.2\na: read f 4998 5\n";
+    let cut_transcript =
+        b"#1 a.1 id 1\n#2 a.2 ok\n#3 a.3 ok\n#4 b.1 ok\n#5 b.2 data ff0000\n#6 a.4 data 0000aa\nplaces host=0 drive=0 reads=0 writes=0\n".as_slice();
+    let run =
+        "func ret\n  ldxdw r2, [r1+32]\n  ldxdw r0, [r2+0]\n  exit\nend\na: create f\na: load ret func ret\na: readl f 0 0 ret 10 4 hex:0400000000000000\na: readl f 0 0 ret 10 4 hex:0500000000000000\na: readl f 0 0 ret 2 4 hex:\na: load x code b700000000000000\na: sync\n";
+    let run_transcript =
+        b"#1 a.1 id 1\n#2 a.2 ok\n#3 a.3 res 00000000\n#4 a.4 trap outlen 5\n#5 a.5 trap access 0x400000000 8 1\n#6 a.6 badcode fallsoff 0\n#7 a.7 ok\nplaces host=0 drive=0 reads=0 writes=0\n".as_slice();
+    for (script, transcript) in [
+        (appended, appended_transcript),
+        (cut, cut_transcript),
+        (run, run_transcript),
+    ] {
+        let (status, out) = told(alloc, "solo - S -", script.as_bytes(), Vec::new(alloc))?;
+        assert_eq!(rt; status, Status::Ok, "at {script}");
+        assert!(rt; out.bytes() == transcript, "at {script}");
+    }
+    Ok(())
+}
+
+// What `check` says of a transcript of the script whose transcript is `GAP_TRANSCRIPT`.
+fn checked(
+    alloc: Global,
+    transcript: &[u8],
+    fail: Vec<u64>,
+) -> Result<(Status, MemSink), AllocError> {
+    let mut room = room_of(alloc, GAP.as_bytes(), Vec::new(alloc), Vec::new(alloc))?;
+    if room.write("T", transcript).is_err() {
+        return Err(AllocError);
+    }
+    asked(alloc, "check - S T", &mut room, fail)
+}
+
+#[test]
+fn transcripts_are_checked(rt: HostRuntime) -> Result<(), Fail> {
+    let alloc = rt.alloc();
+    let places = "places host=0 drive=0 reads=0 writes=0\n";
+    for (lines, status, last) in [
+        (
+            "#1 a.1 id 1\n#2 a.2 ok\n#3 a.3 len 4098\n#4 a.4 data 00\n",
+            Status::Differs,
+            "differs 3 expected len 4099\n",
+        ),
+        (
+            "#1 a.1 id 1\n#2 a.3 len 0\n#3 a.2 ok\n",
+            Status::Differs,
+            "differs 2 order\n",
+        ),
+        (
+            "#1 a.1 id 1\n#2 a.2 ok\n",
+            Status::Differs,
+            "differs 3 order\n",
+        ),
+        (
+            "#1 a.1 nomemory\n#2 a.2 nofile\n#3 a.3 fault\n#4 a.4 nofile\n",
+            Status::Ok,
+            "legal 4\n",
+        ),
+        ("#1 a.1 len 1\n", Status::BadInput, "badtranscript 1\n"),
+    ] {
+        let text = format!(in alloc; "{lines}{places}")?;
+        let (answer, out) = checked(alloc, text.as_bytes(), Vec::new(alloc))?;
+        assert_eq!(rt; answer, status, "at {lines}");
+        assert!(rt; out.bytes() == last.as_bytes(), "at {lines}");
+    }
+    let (answer, out) = checked(alloc, GAP_TRANSCRIPT, Vec::new(alloc))?;
+    assert_eq!(rt; answer, Status::Ok);
+    assert!(rt; out.bytes() == b"legal 4\n".as_slice());
+    let (answer, out) = checked(alloc, GAP_TRANSCRIPT, vec![in alloc; 1]?)?;
+    assert_eq!(rt; answer, Status::WriteFault);
+    assert!(rt; out.bytes().is_empty());
     Ok(())
 }
 

@@ -30,7 +30,7 @@ fn refuse<O: Sink>(alloc: Global, out: &mut O, refusal: &Refusal) -> Status
 ///
 /// `asm SRC OUT` writes the object of an assembler text and prints `slots N`; `disasm OBJ` prints the
 /// text of an object and `verify OBJ` the line `accepted N`; `solo - SCRIPT -` prints the transcript of
-/// a script. All other words are outside the grammar. `-` as OUT writes nothing. The last line of a
+/// a script, and `check - SCRIPT TRANSCRIPT` whether a transcript is one that it may have. All other words are outside the grammar. `-` as OUT writes nothing. The last line of a
 /// refusal is printed as far as the sink takes it.
 pub fn stack_quiet<R: Room, O: Sink>(
     alloc: Global,

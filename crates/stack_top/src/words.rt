@@ -1,6 +1,6 @@
 //! The grammar of the words.
 ghost use Rattle.std.specs.Prelude.{◌≡◌, map, string_bytes, IfOk, OnErr, IsSome};
-ghost use Rattle.stack_top.specs.Words.{is_file_word, asm_of, disasm_of, verify_of, solo_of, command_of};
+ghost use Rattle.stack_top.specs.Words.{is_file_word, asm_of, disasm_of, verify_of, check_of, solo_of, command_of};
 
 use edge_io::Text;
 use std::alloc::{AllocError, Global};
@@ -14,6 +14,8 @@ pub enum Command {
     Disasm { object: Text },
     /// `verify OBJ`
     Verify { object: Text },
+    /// `check - SCRIPT TRANSCRIPT`
+    Check { script: Text, transcript: Text },
     /// `solo - SCRIPT -`
     Solo { script: Text },
 }
@@ -73,6 +75,24 @@ fn verify_of(alloc: Global, words: &[String]) -> Result<Option<Command>, AllocEr
     Ok(Some(Command::Verify { object }))
 }
 
+fn check_of(alloc: Global, words: &[String]) -> Result<Option<Command>, AllocError>
+    ensures ok { IfOk result (λ command. command ≡ check_of (map string_bytes words.now)) }
+    ensures err { OnErr result (IsSome (check_of (map string_bytes words.now))) }
+{
+    let [image, script, transcript] = words else {
+        return Ok(None);
+    };
+    if image.as_str() != "-"
+        || !is_file_word(script.as_str())
+        || !is_file_word(transcript.as_str())
+    {
+        return Ok(None);
+    }
+    let script = text(alloc, script.as_str())?;
+    let transcript = text(alloc, transcript.as_str())?;
+    Ok(Some(Command::Check { script, transcript }))
+}
+
 fn solo_of(alloc: Global, words: &[String]) -> Result<Option<Command>, AllocError>
     ensures ok { IfOk result (λ command. command ≡ solo_of (map string_bytes words.now)) }
     ensures err { OnErr result (IsSome (solo_of (map string_bytes words.now))) }
@@ -99,6 +119,7 @@ pub fn command_of(alloc: Global, words: &[String]) -> Result<Option<Command>, Al
         "asm" => asm_of(alloc, rest),
         "disasm" => disasm_of(alloc, rest),
         "verify" => verify_of(alloc, rest),
+        "check" => check_of(alloc, rest),
         "solo" => solo_of(alloc, rest),
         _ => Ok(None),
     }

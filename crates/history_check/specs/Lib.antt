@@ -1,0 +1,4 @@
+pub mod Replies
+pub mod Verdicts
+pub mod Histories
+pub mod Held
