@@ -85,11 +85,11 @@ reads_only told (command.Verify object) acts none is =
     shown_reads_only accepted_line is.comes.0 (object_read is.comes.0) acts (subst P (sym is.comes.2) is.are)
 reads_only told (command.Check script transcript) acts none is =
     let P : Finish → Type 0 = λ f. AreActs f acts in
-    script_reads_only told (script_in (read_script is.comes.0)) (reads_transcript transcript) is.finish acts is.comes.2 is.are
+    script_reads_only told (script_in 1 (read_script is.comes.0)) (reads_transcript transcript) is.finish acts is.comes.2 is.are
     (λ s comes. checked_reads_only s (read_transcript comes.0 s.lanes) acts (subst P (sym comes.2) is.are))
 reads_only told (command.Solo script) acts none is =
     let P : Finish → Type 0 = λ f. AreActs f acts in
-    script_reads_only told (script_in (read_script is.comes.0)) (λ s. ends (transcribes s)) is.finish acts is.comes.2 is.are
+    script_reads_only told (script_in 0 (read_script is.comes.0)) (λ s. ends (transcribes s)) is.finish acts is.comes.2 is.are
     (λ s comes. let are : AreActs (transcribes s) acts = subst P (sym comes) is.are in ap has_store are.2)
 
 -- acts that were cut short, and that were left off

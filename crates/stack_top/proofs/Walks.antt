@@ -44,58 +44,58 @@ finished told before now name bytes finish (Err (refused.Disordered number)) und
 -- ---- scripts
 
 -- a work that goes on with a script that was read
-comes_after : (told : Option Names) (name : List ℕ) (script : Script) (next : Script → Work) (finish : Finish) → IsHeldScript told name script → ComesTo told (next script) finish → ComesTo told (reads_script name next) finish
-comes_after told name script next finish held comes =
+comes_after : (dies : ℕ) (told : Option Names) (name : List ℕ) (script : Script) (next : Script → Work) (finish : Finish) → IsHeldScript dies told name script → ComesTo told (next script) finish → ComesTo told (reads_script dies name next) finish
+comes_after dies told name script next finish held comes =
     let P : Result Script Refusal → Type 0 = λ read. ComesTo told (with_script read next) finish in
     (held.bytes, held.under, subst P (sym held.is) comes)
 
-wants_after : (told : Option Names) (name other : List ℕ) (script : Script) (next : Script → Work) → IsHeldScript told name script → Wants told (next script) other → Wants told (reads_script name next) other
-wants_after told name other script next held wants =
+wants_after : (dies : ℕ) (told : Option Names) (name other : List ℕ) (script : Script) (next : Script → Work) → IsHeldScript dies told name script → Wants told (next script) other → Wants told (reads_script dies name next) other
+wants_after dies told name other script next held wants =
     let P : Result Script Refusal → Type 0 = λ read. Wants told (with_script read next) other in
     inr (held.bytes, held.under, subst P (sym held.is) wants)
 
-comes_refused : (told : Option Names) (name bytes : List ℕ) (next : Script → Work) (refusal : Refusal) → IsUnder told name bytes → script_in (read_script bytes) ≡ Err refusal → ComesTo told (reads_script name next) (refuses refusal)
-comes_refused told name bytes next refusal under is =
+comes_refused : (dies : ℕ) (told : Option Names) (name bytes : List ℕ) (next : Script → Work) (refusal : Refusal) → IsUnder told name bytes → script_in dies (read_script bytes) ≡ Err refusal → ComesTo told (reads_script dies name next) (refuses refusal)
+comes_refused dies told name bytes next refusal under is =
     let P : Result Script Refusal → Type 0 = λ read. ComesTo told (with_script read next) (refuses refusal) in
     (bytes, under, subst P (sym is) refl)
 
 -- what was read is no script
-pub unfit : (told : Option Names) (before now : ℕ) (name bytes : List ℕ) (next : Script → Work) (refusal : Refusal) → IsUnder told name bytes → IsScript (script_in (read_script bytes)) (Err refusal) → IsDecided told before now (reads_script name next) (Err refusal)
-unfit told before now name bytes next (refused.Absent other) under is = absurd is
-unfit told before now name bytes next (refused.ReadFault other) under is = absurd is
-unfit told before now name bytes next refused.NoMemory under is = is
-unfit told before now name bytes next (refused.BadText fault) under is = comes_refused told name bytes next (refused.BadText fault) under is
-unfit told before now name bytes next (refused.BadObject fault) under is = comes_refused told name bytes next (refused.BadObject fault) under is
-unfit told before now name bytes next (refused.BadScript fault) under is = comes_refused told name bytes next (refused.BadScript fault) under is
-unfit told before now name bytes next (refused.BadDie line) under is = comes_refused told name bytes next (refused.BadDie line) under is
-unfit told before now name bytes next (refused.BadTranscript line) under is = comes_refused told name bytes next (refused.BadTranscript line) under is
-unfit told before now name bytes next (refused.Differs number expected) under is = comes_refused told name bytes next (refused.Differs number expected) under is
-unfit told before now name bytes next (refused.Disordered number) under is = comes_refused told name bytes next (refused.Disordered number) under is
+pub unfit : (dies : ℕ) (told : Option Names) (before now : ℕ) (name bytes : List ℕ) (next : Script → Work) (refusal : Refusal) → IsUnder told name bytes → IsScript (script_in dies (read_script bytes)) (Err refusal) → IsDecided told before now (reads_script dies name next) (Err refusal)
+unfit dies told before now name bytes next (refused.Absent other) under is = absurd is
+unfit dies told before now name bytes next (refused.ReadFault other) under is = absurd is
+unfit dies told before now name bytes next refused.NoMemory under is = is
+unfit dies told before now name bytes next (refused.BadText fault) under is = comes_refused dies told name bytes next (refused.BadText fault) under is
+unfit dies told before now name bytes next (refused.BadObject fault) under is = comes_refused dies told name bytes next (refused.BadObject fault) under is
+unfit dies told before now name bytes next (refused.BadScript fault) under is = comes_refused dies told name bytes next (refused.BadScript fault) under is
+unfit dies told before now name bytes next (refused.BadDie line) under is = comes_refused dies told name bytes next (refused.BadDie line) under is
+unfit dies told before now name bytes next (refused.BadTranscript line) under is = comes_refused dies told name bytes next (refused.BadTranscript line) under is
+unfit dies told before now name bytes next (refused.Differs number expected) under is = comes_refused dies told name bytes next (refused.Differs number expected) under is
+unfit dies told before now name bytes next (refused.Disordered number) under is = comes_refused dies told name bytes next (refused.Disordered number) under is
 
-pub held_script : (told : Option Names) (name bytes : List ℕ) (result : Result Script Refusal) → IsUnder told name bytes → IsScript (script_in (read_script bytes)) result → IfOk result (IsHeldScript told name)
-held_script told name bytes (Ok script) under is = record { bytes = bytes; under = under; is = is }
-held_script told name bytes (Err refusal) under is = tt
+pub held_script : (dies : ℕ) (told : Option Names) (name bytes : List ℕ) (result : Result Script Refusal) → IsUnder told name bytes → IsScript (script_in dies (read_script bytes)) result → IfOk result (IsHeldScript dies told name)
+held_script dies told name bytes (Ok script) under is = record { bytes = bytes; under = under; is = is }
+held_script dies told name bytes (Err refusal) under is = tt
 
-pub unfit_script : (told : Option Names) (before now : ℕ) (name bytes : List ℕ) (result : Result Script Refusal) → IsUnder told name bytes → IsScript (script_in (read_script bytes)) result → IfErr result (λ refusal. (next : Script → Work) → IsDecided told before now (reads_script name next) (Err refusal))
-unfit_script told before now name bytes (Ok script) under is = tt
-unfit_script told before now name bytes (Err refusal) under is = λ next. unfit told before now name bytes next refusal under is
+pub unfit_script : (dies : ℕ) (told : Option Names) (before now : ℕ) (name bytes : List ℕ) (result : Result Script Refusal) → IsUnder told name bytes → IsScript (script_in dies (read_script bytes)) result → IfErr result (λ refusal. (next : Script → Work) → IsDecided told before now (reads_script dies name next) (Err refusal))
+unfit_script dies told before now name bytes (Ok script) under is = tt
+unfit_script dies told before now name bytes (Err refusal) under is = λ next. unfit dies told before now name bytes next refusal under is
 
 -- the work went on with a script that was read
-pub after_script : (told : Option Names) (before middle now : ℕ) (name : List ℕ) (script : Script) (next : Script → Work) (result : Result (List Act) Refusal) → IsHeldScript told name script → before ≤ middle → IsDecided told middle now (next script) result → IsDecided told before now (reads_script name next) result
-after_script told before middle now name script next (Ok acts) held later is =
-    record { finish = is.finish; comes = comes_after told name script next is.finish held is.comes; are = is.are }
-after_script told before middle now name script next (Err (refused.Absent other)) held later is =
-    (wants_after told name other script next held is.0, is.1)
-after_script told before middle now name script next (Err (refused.ReadFault other)) held later is =
-    (wants_after told name other script next held is.0, is.1, rose_since before middle now later is.2)
-after_script told before middle now name script next (Err refused.NoMemory) held later is = is
-after_script told before middle now name script next (Err (refused.BadText fault)) held later is = comes_after told name script next (refuses (refused.BadText fault)) held is
-after_script told before middle now name script next (Err (refused.BadObject fault)) held later is = comes_after told name script next (refuses (refused.BadObject fault)) held is
-after_script told before middle now name script next (Err (refused.BadScript fault)) held later is = comes_after told name script next (refuses (refused.BadScript fault)) held is
-after_script told before middle now name script next (Err (refused.BadDie line)) held later is = comes_after told name script next (refuses (refused.BadDie line)) held is
-after_script told before middle now name script next (Err (refused.BadTranscript line)) held later is = comes_after told name script next (refuses (refused.BadTranscript line)) held is
-after_script told before middle now name script next (Err (refused.Differs number expected)) held later is = comes_after told name script next (refuses (refused.Differs number expected)) held is
-after_script told before middle now name script next (Err (refused.Disordered number)) held later is = comes_after told name script next (refuses (refused.Disordered number)) held is
+pub after_script : (dies : ℕ) (told : Option Names) (before middle now : ℕ) (name : List ℕ) (script : Script) (next : Script → Work) (result : Result (List Act) Refusal) → IsHeldScript dies told name script → before ≤ middle → IsDecided told middle now (next script) result → IsDecided told before now (reads_script dies name next) result
+after_script dies told before middle now name script next (Ok acts) held later is =
+    record { finish = is.finish; comes = comes_after dies told name script next is.finish held is.comes; are = is.are }
+after_script dies told before middle now name script next (Err (refused.Absent other)) held later is =
+    (wants_after dies told name other script next held is.0, is.1)
+after_script dies told before middle now name script next (Err (refused.ReadFault other)) held later is =
+    (wants_after dies told name other script next held is.0, is.1, rose_since before middle now later is.2)
+after_script dies told before middle now name script next (Err refused.NoMemory) held later is = is
+after_script dies told before middle now name script next (Err (refused.BadText fault)) held later is = comes_after dies told name script next (refuses (refused.BadText fault)) held is
+after_script dies told before middle now name script next (Err (refused.BadObject fault)) held later is = comes_after dies told name script next (refuses (refused.BadObject fault)) held is
+after_script dies told before middle now name script next (Err (refused.BadScript fault)) held later is = comes_after dies told name script next (refuses (refused.BadScript fault)) held is
+after_script dies told before middle now name script next (Err (refused.BadDie line)) held later is = comes_after dies told name script next (refuses (refused.BadDie line)) held is
+after_script dies told before middle now name script next (Err (refused.BadTranscript line)) held later is = comes_after dies told name script next (refuses (refused.BadTranscript line)) held is
+after_script dies told before middle now name script next (Err (refused.Differs number expected)) held later is = comes_after dies told name script next (refuses (refused.Differs number expected)) held is
+after_script dies told before middle now name script next (Err (refused.Disordered number)) held later is = comes_after dies told name script next (refuses (refused.Disordered number)) held is
 
 -- a finish is a work that reads nothing more
 pub at_finish : (told : Option Names) (before now : ℕ) (finish : Finish) (result : Result (List Act) Refusal) → IsFinished finish result → IsDecided told before now (ends finish) result

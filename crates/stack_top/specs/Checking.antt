@@ -30,5 +30,6 @@ checked script (Err line) = refuses (refused.BadTranscript line)
 abbrev pub reads_transcript : List ℕ → Script → Work
 reads_transcript name script = reads name (λ text. ends (checked script (read_transcript text script.lanes)))
 
+-- the empty drive has one die
 abbrev pub check_work : List ℕ → List ℕ → Work
-check_work script transcript = reads_script script (reads_transcript transcript)
+check_work script transcript = reads_script 1 script (reads_transcript transcript)

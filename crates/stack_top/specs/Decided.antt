@@ -40,8 +40,8 @@ IsScript read (Err (refused.Absent name)) = ⊥
 IsScript read (Err (refused.ReadFault name)) = ⊥
 IsScript read (Err refusal) = read ≡ Err refusal
 
--- a script that the room held under the name
-pub record IsHeldScript (told : Option Names) (name : List ℕ) (script : Script) : Type 0 where
+-- a script over so many dies that the room held under the name
+pub record IsHeldScript (dies : ℕ) (told : Option Names) (name : List ℕ) (script : Script) : Type 0 where
   pub bytes : List ℕ
   pub under : IsUnder told name bytes
-  pub is : script_in (read_script bytes) ≡ Ok script
+  pub is : script_in dies (read_script bytes) ≡ Ok script

@@ -62,6 +62,9 @@ fn read_checked<R: Room>(
     checked(alloc, script, &text)
 }
 
+// How many dies the empty drive has.
+const DIES: u32 = 1;
+
 // The acts of `check - SCRIPT TRANSCRIPT`.
 pub fn check<R: Room>(
     alloc: Global,
@@ -73,6 +76,6 @@ pub fn check<R: Room>(
     ensures same { R.names room.new ≡ R.names room.old }
     ensures later { R.faults room.old ≤ R.faults room.new }
 {
-    let script = read_named_script(alloc, room, script)?;
+    let script = read_named_script(alloc, room, script, DIES)?;
     read_checked(alloc, room, &script, transcript)
 }

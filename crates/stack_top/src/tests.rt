@@ -138,9 +138,15 @@ fn refusals_have_their_last_lines(rt: HostRuntime) -> Result<(), Fail> {
         ("check - S none", "", Status::Absent, "absent none\n"),
         (
             "check - S S",
-            "; nothing\n",
+            "fault die 0 read 1\n",
             Status::BadInput,
             "badtranscript 1\n",
+        ),
+        (
+            "check - S S",
+            "fault die 1 read 1\n",
+            Status::BadInput,
+            "badscript die 1\n",
         ),
     ] {
         let (answer, out) = told(alloc, line, script.as_bytes(), Vec::new(alloc))?;

@@ -14,5 +14,5 @@ returns-in_err-script-clause-decided g c =
 pub returns-clause-decided : goal.returns-clause-decided
 returns-clause-decided g c =
     let P : Option Names → Type 0 = λ names. IsDecided names (g.R.Room.faults c.read_named_script.new.room) (g.R.Room.faults c.read_checked.new.room) (reads_transcript c.args.transcript.now c.in_ok-script.script) c.read_checked.result in
-    after_script _ _ (g.R.Room.faults c.read_named_script.new.room) _ _ c.in_ok-script.script (reads_transcript c.args.transcript.now) _
+    after_script _ _ _ (g.R.Room.faults c.read_named_script.new.room) _ _ c.in_ok-script.script (reads_transcript c.args.transcript.now) _
     c.in_ok-script.ensures.ok c.read_named_script.ensures.later (subst P c.read_named_script.ensures.same c.read_checked.ensures.decided)

@@ -10,5 +10,5 @@ returns-in_err-script-clause-decided g c =
 
 pub returns-clause-decided : goal.returns-clause-decided
 returns-clause-decided g c =
-    after_script _ _ (g.R.Room.faults c.read_named_script.new.room) _ _ c.in_ok-script.script (λ script. ends (transcribes script)) _
+    after_script _ _ _ (g.R.Room.faults c.read_named_script.new.room) _ _ c.in_ok-script.script (λ script. ends (transcribes script)) _
     c.in_ok-script.ensures.ok c.read_named_script.ensures.later (at_finish _ _ _ (transcribes c.in_ok-script.script) _ c.transcribed.ensures)
