@@ -1,0 +1,15 @@
+-- Dies in memory with the pages and the plans that they are given. This project's own.
+use Rattle.std.specs.Prelude.{ℕ, List, [], ◌∷◌}
+use Rattle.flash_die.specs.Dies.{PlanView, DieView}
+use Rattle.flash_die.specs.Failures.{told_die}
+use Rattle.flash_die.specs.declared.plan.Plan.{Plan}
+
+-- a plan before the first call
+abbrev pub start_plan : Plan → PlanView
+start_plan plan = record { reads = 0; writes = 0; failing_reads = plan.reads; failing_writes = plan.writes }
+
+-- a die of each list of pages, with its plan
+abbrev pub dies_of : List (List (List ℕ)) → List Plan → List DieView
+dies_of [] plans = []
+dies_of (pages ∷ lists) [] = []
+dies_of (pages ∷ lists) (plan ∷ plans) = told_die pages (start_plan plan) ∷ dies_of lists plans
