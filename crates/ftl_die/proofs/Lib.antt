@@ -1,0 +1,4 @@
+pub mod Changes
+pub mod Loaded
+pub mod Moving
+pub mod Went
