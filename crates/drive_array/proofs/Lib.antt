@@ -3,3 +3,4 @@ pub mod Dealing
 pub mod InOrder
 pub mod Pairs
 pub mod Told
+pub mod Loaded

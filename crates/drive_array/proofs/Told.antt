@@ -7,7 +7,7 @@ use Rattle.flash_die.specs.declared.plan.Plan.{Plan}
 use Rattle.mirror_die.specs.Mirror.{made_of}
 use Rattle.drive_array.specs.Cut.{cuts}
 use Rattle.drive_array.specs.Mirrors.{beside}
-use Rattle.drive_array.specs.Shares.{dies_of}
+use Rattle.drive_array.specs.Shares.{dies_of, loaded_of}
 use Rattle.drive_array.specs.Reads.{die_at, HasShares, TellsPages}
 use Rattle.drive_array.proofs.Cutting.{cuts_at, length-cut, length-cuts}
 
@@ -46,6 +46,11 @@ mirrors_told (pages ∷ lists) [] copies p c = absurd (omega arith)
 mirrors_told (pages ∷ lists) (plan ∷ plans) [] p c = absurd (omega arith)
 mirrors_told (pages ∷ lists) (plan ∷ plans) (copy ∷ copies) p c = told_one _ (beside made_of (dies_of lists plans) (dies_of lists copies)) pages lists refl refl (mirrors_told lists plans copies (omega arith) (omega arith))
 
+loaded_told : (lists : List (List (List ℕ))) (plans : List Plan) → length plans ≡ length lists → AreTold (loaded_of lists plans) lists
+loaded_told [] plans count = told_none
+loaded_told (pages ∷ lists) [] count = absurd (omega arith)
+loaded_told (pages ∷ lists) (plan ∷ plans) count = told_one _ (loaded_of lists plans) pages lists refl refl (loaded_told lists plans (omega arith))
+
 shares_told : (pages : List (List ℕ)) (dies total : ℕ) (views : List DieView) → length pages ≡ total → AreTold views (cuts pages dies) → HasShares views dies total
 shares_told pages dies total views all are = record {
   count = are.count ∙ length-cuts pages dies;
@@ -60,6 +65,12 @@ dies_share pages dies total plans views all count is = subst (λ (v : List DieVi
 
 pub dies_tell : (pages : List (List ℕ)) (dies : ℕ) (plans : List Plan) (views : List DieView) → length plans ≡ dies → views ≡ dies_of (cuts pages dies) plans → TellsPages views dies (cuts pages dies)
 dies_tell pages dies plans views count is = subst (λ (v : List DieView). TellsPages v dies (cuts pages dies)) (sym is) (pages_told pages dies (dies_of (cuts pages dies) plans) (dies_told (cuts pages dies) plans (count ∙ sym (length-cuts pages dies))))
+
+pub loaded_share : (pages : List (List ℕ)) (dies total : ℕ) (plans : List Plan) (views : List DieView) → length pages ≡ total → length plans ≡ dies → views ≡ loaded_of (cuts pages dies) plans → HasShares views dies total
+loaded_share pages dies total plans views all count is = subst (λ (v : List DieView). HasShares v dies total) (sym is) (shares_told pages dies total (loaded_of (cuts pages dies) plans) all (loaded_told (cuts pages dies) plans (count ∙ sym (length-cuts pages dies))))
+
+pub loaded_tell : (pages : List (List ℕ)) (dies : ℕ) (plans : List Plan) (views : List DieView) → length plans ≡ dies → views ≡ loaded_of (cuts pages dies) plans → TellsPages views dies (cuts pages dies)
+loaded_tell pages dies plans views count is = subst (λ (v : List DieView). TellsPages v dies (cuts pages dies)) (sym is) (pages_told pages dies (loaded_of (cuts pages dies) plans) (loaded_told (cuts pages dies) plans (count ∙ sym (length-cuts pages dies))))
 
 pub mirrors_share : (pages : List (List ℕ)) (dies total : ℕ) (plans copies : List Plan) (views : List DieView) → length pages ≡ total → length plans ≡ dies → length copies ≡ dies → views ≡ beside made_of (dies_of (cuts pages dies) plans) (dies_of (cuts pages dies) copies) → HasShares views dies total
 mirrors_share pages dies total plans copies views all p c is = subst (λ (v : List DieView). HasShares v dies total) (sym is) (shares_told pages dies total _ all (mirrors_told (cuts pages dies) plans copies (p ∙ sym (length-cuts pages dies)) (c ∙ sym (length-cuts pages dies))))

@@ -1,5 +1,5 @@
 -- Dies in memory with the pages and the plans that they are given. This project's own.
-use Rattle.std.specs.Prelude.{ℕ, List, [], ◌∷◌}
+use Rattle.std.specs.Prelude.{ℕ, ◌+◌, List, [], ◌∷◌, length, Some, None}
 use Rattle.flash_die.specs.Dies.{PlanView, DieView}
 use Rattle.flash_die.specs.Failures.{told_die}
 use Rattle.flash_die.specs.declared.plan.Plan.{Plan}
@@ -13,3 +13,13 @@ abbrev pub dies_of : List (List (List ℕ)) → List Plan → List DieView
 dies_of [] plans = []
 dies_of (pages ∷ lists) [] = []
 dies_of (pages ∷ lists) (plan ∷ plans) = told_die pages (start_plan plan) ∷ dies_of lists plans
+
+-- a die over raw flash with these pages, armed with the plan
+abbrev pub loaded_die : List (List ℕ) → Plan → DieView
+loaded_die pages plan = record { pages = Some pages; size = length pages; faults = 0; most = Some (length plan.reads + length plan.writes); plan = None }
+
+-- one of each list of pages, with its plan
+abbrev pub loaded_of : List (List (List ℕ)) → List Plan → List DieView
+loaded_of [] plans = []
+loaded_of (pages ∷ lists) [] = []
+loaded_of (pages ∷ lists) (plan ∷ plans) = loaded_die pages plan ∷ loaded_of lists plans

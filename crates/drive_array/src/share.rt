@@ -1,7 +1,9 @@
 // A die's share of the pages of an image.
-ghost use Rattle.std.specs.Prelude.{◌≡◌, ◌+◌, ◌<◌, ◌^◌, ◌∷◌, ◌++◌, [], length, OnOk};
+ghost use Rattle.std.specs.Prelude.{◌≡◌, ◌+◌, ◌<◌, ◌^◌, ◌∷◌, ◌++◌, [], length, IfOk, OnOk};
 
 use flash_die::{DieMem, Plan};
+use flash_raw::RawMem;
+use ftl_die::FtlDie;
 use page_base::{NoMemory, Page};
 use std::alloc::Global;
 
@@ -16,7 +18,8 @@ pub struct Share {
 impl Share {
     ghost use Rattle.flash_die.specs.Failures.{told_die};
     ghost use Rattle.flash_die.specs.Memory.{view_of};
-    ghost use Rattle.drive_array.specs.Shares.{start_plan};
+    ghost use Rattle.drive_array.specs.Shares.{start_plan, loaded_die};
+    ghost use Rattle.ftl_die.specs.Ftl.{view_of as ftl_view_of};
     ghost use Rattle.drive_array.specs.Parts.{pages_of, plan_of};
 
     /// No pages, with a plan.
@@ -45,5 +48,11 @@ impl Share {
         ensures { view_of result ≡ told_die (pages_of self) (start_plan (plan_of self)) }
     {
         DieMem::new(self.pages, self.plan)
+    }
+    /// The die of these pages over raw flash, which fails by the plan.
+    pub fn into_ftl(self, alloc: Global) -> Result<FtlDie<RawMem>, NoMemory>
+        ensures { IfOk result (λ die. ftl_view_of die ≡ loaded_die (pages_of self) (plan_of self)) }
+    {
+        FtlDie::loaded(alloc, self.pages, self.plan)
     }
 }

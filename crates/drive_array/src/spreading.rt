@@ -34,7 +34,7 @@ pub fn spread(
 }
 
 // A share without pages for each plan.
-fn empty_shares(alloc: Global, plans: Vec<Plan>) -> Result<Vec<Share>, NoMemory>
+pub fn empty_shares(alloc: Global, plans: Vec<Plan>) -> Result<Vec<Share>, NoMemory>
     ensures plans { IfOk result (λ shares. map (λ share. plan_of share) shares.items ≡ plans.items) }
     ensures pages { IfOk result (λ shares. map (λ share. pages_of share) shares.items ≡ replicate (length plans.items) []) }
 {
@@ -46,7 +46,7 @@ fn empty_shares(alloc: Global, plans: Vec<Plan>) -> Result<Vec<Share>, NoMemory>
 }
 
 // Deals the pages to the dies in turn.
-fn deal(pages: Vec<Page>, dies: u32, shares: &mut Vec<Share>) -> Result<(), NoMemory>
+pub fn deal(pages: Vec<Page>, dies: u32, shares: &mut Vec<Share>) -> Result<(), NoMemory>
     requires some { 0 < dies }
     requires few { length pages.items < 2 ^ 32 }
     requires empty { map (λ share. pages_of share) shares.old.items ≡ replicate dies [] }

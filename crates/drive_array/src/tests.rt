@@ -4,7 +4,7 @@ ghost use Rattle.page_base.specs.Drive.{total_pages};
 use crate::laws::{
     gathered_spread_is_the_image, image_page_lies_on_its_die, joined_cuts_are_the_image,
 };
-use crate::{GatherErr, gather, spread, spread_mirror};
+use crate::{GatherErr, gather, spread, spread_ftl, spread_mirror};
 use edge_io::Listed;
 use flash_die::Plan;
 use page_base::{Geometry, NoMemory, Page};
@@ -116,6 +116,20 @@ fn a_mirror_fails_where_both_copies_do(rt: HostRuntime) -> Result<(), GatherErr>
     assert_eq!(rt;
         gather(alloc, &mut dies, drive.geometry),
         Err(GatherErr::Die { die: 1 })
+    );
+    Ok(())
+}
+
+#[test]
+fn dies_over_raw_flash_are_gathered_as_they_were(rt: HostRuntime) -> Result<(), GatherErr> {
+    let alloc = rt.alloc();
+    let drive = small_drive(alloc, &[67, 67])?;
+    let mut dies = spread_ftl(alloc, drive.pages, drive.geometry, drive.plans)?;
+    let bytes = gather(alloc, &mut dies, drive.geometry)?;
+    assert!(rt; is_the_image(&bytes));
+    assert_eq!(rt;
+        gather(alloc, &mut dies, drive.geometry),
+        Err(GatherErr::Die { die: 0 })
     );
     Ok(())
 }
