@@ -1,5 +1,5 @@
 // The pages of an image, gathered from the dies of a drive.
-ghost use Rattle.std.specs.Prelude.{◌≡◌, ◌<◌, ◌++◌, length, map, set, is_ok, IfOk, OnOk, OnErr, Err, IfSome};
+ghost use Rattle.std.specs.Prelude.{◌≡◌, ◌+◌, ◌<◌, ◌≤◌, ◌++◌, vec_len, vec_capacity, length, map, set, is_ok, IfOk, OnOk, OnErr, Err, IfSome};
 ghost use Rattle.flash_die.specs.Dies.{WentRead};
 ghost use Rattle.drive_array.specs.Reads.{AreDiesOf, TellsPages, ReadsImage, StopsIn, RisesAt, GivesAll, FailsWithin, die_at, share_of, image_bytes};
 
@@ -35,7 +35,8 @@ impl From<AllocError> for GatherErr {
 ///
 /// There are as many dies as the geometry has, each with as many pages as lie on it. `Die` names
 /// the die that failed, whose count of faults has risen; where the dies tell their plans, it comes
-/// exactly where for some die one of its next reads, as many as it has pages, is listed.
+/// exactly where for some die one of its next reads, as many as it has pages, is listed. Memory is
+/// taken before the first read.
 pub fn gather<D: Die>(
     alloc: Global,
     dies: &mut Vec<D>,
@@ -50,6 +51,7 @@ pub fn gather<D: Die>(
 
     // What follows for the die that failed, and where the dies tell their plans. A geometry has a die.
     ensures some { 0 < geometry.dies }
+    ensures unread { result ≡ Err GatherErr.NoMemory → dies.new.items ≡ dies.old.items }
     ensures fault { (die : _) → result ≡ Err (GatherErr.Die die)
         → RisesAt die (map D.seen dies.old.items) (map D.seen dies.new.items) }
     ensures listed { (die : _) → result ≡ Err (GatherErr.Die die)
@@ -68,6 +70,7 @@ fn gather_in_order<D: Die>(
 ) -> Result<Vec<u8>, GatherErr>
     requires shares { AreDiesOf geometry (map D.seen dies.old.items) }
     ensures some { 0 < geometry.dies }
+    ensures unread { result ≡ Err GatherErr.NoMemory → dies.new.items ≡ dies.old.items }
     ensures bytes { IfOk result (λ bytes. (lists : _) → TellsPages (map D.seen dies.old.items) geometry.dies lists
         → bytes.items ≡ image_bytes geometry lists) }
     ensures read { OnOk result (ReadsImage geometry (map D.seen dies.old.items) (map D.seen dies.new.items)) }
@@ -108,7 +111,10 @@ fn read_page<D: Die>(
 
 // Adds the bytes of a page at the end.
 fn append(bytes: &mut Vec<u8>, page: &Page) -> Result<(), NoMemory>
-    ensures { OnOk result (bytes.new.items ≡ bytes.old.items ++ page.now) }
+    ensures bytes { OnOk result (bytes.new.items ≡ bytes.old.items ++ page.now) }
+    ensures len { OnOk result (vec_len bytes.new ≡ vec_len bytes.old + 4096) }
+    ensures capacity { vec_capacity bytes.old ≤ vec_capacity bytes.new }
+    ensures full { OnErr result (vec_capacity bytes.old < vec_len bytes.old + 4096) }
 {
     let mut copied = [0; 4096];
     page.read(0, &mut copied);
