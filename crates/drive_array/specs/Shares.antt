@@ -3,6 +3,7 @@ use Rattle.std.specs.Prelude.{ℕ, ◌+◌, List, [], ◌∷◌, length, Some, N
 use Rattle.flash_die.specs.Dies.{PlanView, DieView}
 use Rattle.flash_die.specs.Failures.{told_die}
 use Rattle.flash_die.specs.declared.plan.Plan.{Plan}
+use Rattle.flash_raw.specs.Calls.{RawPlan, first_calls}
 
 -- a plan before the first call
 abbrev pub start_plan : Plan → PlanView
@@ -23,3 +24,7 @@ abbrev pub loaded_of : List (List (List ℕ)) → List Plan → List DieView
 loaded_of [] plans = []
 loaded_of (pages ∷ lists) [] = []
 loaded_of (pages ∷ lists) (plan ∷ plans) = loaded_die pages plan ∷ loaded_of lists plans
+
+-- the plan of raw flash whose reads and programs fail as the plan's reads and writes, and whose erases never do
+abbrev pub armed : Plan → RawPlan
+armed plan = record { earlier = 0; reads = first_calls plan.reads; programs = first_calls plan.writes; erases = first_calls [] }

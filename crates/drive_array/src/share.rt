@@ -18,8 +18,9 @@ pub struct Share {
 impl Share {
     ghost use Rattle.flash_die.specs.Failures.{told_die};
     ghost use Rattle.flash_die.specs.Memory.{view_of};
-    ghost use Rattle.drive_array.specs.Shares.{start_plan, loaded_die};
-    ghost use Rattle.ftl_die.specs.Ftl.{view_of as ftl_view_of};
+    ghost use Rattle.drive_array.specs.Shares.{start_plan, loaded_die, armed};
+    ghost use Rattle.ftl_die.specs.Ftl.{view_of as ftl_view_of, raw_of};
+    ghost use Rattle.flash_raw.specs.Memory.{plan_of as raw_plan_of};
     ghost use Rattle.drive_array.specs.Parts.{pages_of, plan_of};
 
     /// No pages, with a plan.
@@ -49,9 +50,11 @@ impl Share {
     {
         DieMem::new(self.pages, self.plan)
     }
+
     /// The die of these pages over raw flash, which fails by the plan.
     pub fn into_ftl(self, alloc: Global) -> Result<FtlDie<RawMem>, NoMemory>
-        ensures { IfOk result (λ die. ftl_view_of die ≡ loaded_die (pages_of self) (plan_of self)) }
+        ensures die { IfOk result (λ die. ftl_view_of die ≡ loaded_die (pages_of self) (plan_of self)) }
+        ensures plan { IfOk result (λ die. raw_plan_of (raw_of die) ≡ armed (plan_of self)) }
     {
         FtlDie::loaded(alloc, self.pages, self.plan)
     }
