@@ -158,7 +158,7 @@ not_both : (m : Mode) → m ≡ Shared → m ≡ Exclusive → ⊥
 not_both m e f = cc
 
 -- what is found is in the list
-found_in : {A : Type 0} (test : A → Bool) (xs : List A) (x : A) → find test xs ≡ Some x → Contains xs x
+pub found_in : {A : Type 0} (test : A → Bool) (xs : List A) (x : A) → find test xs ≡ Some x → Contains xs x
 found_in test [] x e = absurd (cc)
 found_in {A} test (y ∷ xs) x e = go (test y) (found_in test xs x) e
   where
@@ -166,7 +166,7 @@ found_in {A} test (y ∷ xs) x e = go (test y) (found_in test xs x) e
     go true rest f = (0, omega arith, same_some (Some y) y x refl f)
     go false rest f = let k = rest f in let l = k.1 in (suc k.0, omega arith, k.2)
 
-file_in : (files : List File) (word : Option (List ℕ)) (f : File) → file_by files word ≡ Some f → Contains files f
+pub file_in : (files : List File) (word : Option (List ℕ)) (f : File) → file_by files word ≡ Some f → Contains files f
 file_in files None f e = absurd (cc)
 file_in files (Some name) f e = found_in (λ (f : File). bytes_eq f.name name) files f e
 

@@ -1,0 +1,88 @@
+//! Laws: each is the contract of an empty function.
+ghost use Rattle.std.specs.Prelude.{ℕ, Bool, List};
+ghost use Rattle.dispatcher.specs.declared.side.Side.{Side};
+ghost use Rattle.plain_files.specs.declared.calls.Request.{Request};
+ghost use Rattle.core_state.specs.declared.actor.Actor.{Actor};
+ghost use Rattle.core_state.specs.declared.event.Event.TheVariants.{Enter, Leave, Skip, Begin, Submit, Fetch, DieOut, FlushOut, FillIn, FlushIn, MetaIn, Copy, Take, Evict, Demote};
+ghost use Rattle.core_state.specs.declared.event.Purpose.{Purpose};
+ghost use Rattle.core_hold.specs.Keeps.{KeepsHolds, HandsBack};
+
+/// A lane that enters leaves what the others hold.
+pub fn enter_holds()
+    ensures { (lane : ℕ) → KeepsHolds (Enter lane) }
+{}
+
+/// A lane that leaves leaves what the others hold.
+pub fn leave_holds()
+    ensures { (lane : ℕ) → KeepsHolds (Leave lane) }
+{}
+
+/// A call that is skipped leaves what the others hold.
+pub fn skip_holds()
+    ensures { (lane : ℕ) (request : Request) (fault : Bool) → KeepsHolds (Skip lane request fault) }
+{}
+
+/// A call that begins leaves what the others hold.
+pub fn begin_holds()
+    ensures { (lane : ℕ) (request : Request) (side : Side) → KeepsHolds (Begin lane request side) }
+{}
+
+/// A call that goes into the drive's queue leaves what the others hold.
+pub fn submit_holds()
+    ensures { (lane : ℕ) → KeepsHolds (Submit lane) }
+{}
+
+/// A worker that takes a call leaves what the others hold, the call's lane too.
+pub fn fetch_holds()
+    ensures { (worker lane : ℕ) → KeepsHolds (Fetch worker lane) }
+{}
+
+/// A worker that hands a call back adds what it had of it to what the call's lane holds, and leaves the rest.
+pub fn report_hands_back()
+    ensures { (worker lane : ℕ) → HandsBack worker lane }
+{}
+
+/// A page that a call shares leaves what the others hold.
+pub fn copy_holds()
+    ensures { (actor : Actor) (lane i : ℕ) → KeepsHolds (Copy actor lane i) }
+{}
+
+/// A page that a call has alone leaves what the others hold.
+pub fn take_holds()
+    ensures { (actor : Actor) (lane i : ℕ) → KeepsHolds (Take actor lane i) }
+{}
+
+/// A copy that goes leaves what the others hold.
+pub fn evict_holds()
+    ensures { (actor : Actor) (side : Side) (block : ℕ) → KeepsHolds (Evict actor side block) }
+{}
+
+/// A copy that moves from the host to the drive leaves what the others hold.
+pub fn demote_holds()
+    ensures { (actor : Actor) (block : ℕ) → KeepsHolds (Demote actor block) }
+{}
+
+/// A die that goes out, to read a page or to write a page of the meta data, leaves what the others hold.
+pub fn die_out_holds()
+    ensures { (actor : Actor) (die : ℕ) (purpose : Purpose) → KeepsHolds (DieOut actor die purpose) }
+{}
+
+/// A die that goes out to write a block's page leaves what the others hold.
+pub fn flush_out_holds()
+    ensures { (actor : Actor) (die block : ℕ) → KeepsHolds (FlushOut actor die block) }
+{}
+
+/// A die that comes home from a read leaves what the others hold.
+pub fn fill_in_holds()
+    ensures { (actor : Actor) (die : ℕ) (good : Bool) → KeepsHolds (FillIn actor die good) }
+{}
+
+/// A die that comes home from the write of a block's page leaves what the others hold.
+pub fn flush_in_holds()
+    ensures { (actor : Actor) (die : ℕ) (good : Bool) (left : List ℕ) → KeepsHolds (FlushIn actor die good left) }
+{}
+
+/// A die that comes home from the write of a page of the meta data leaves what the others hold.
+pub fn meta_in_holds()
+    ensures { (actor : Actor) (die : ℕ) (good : Bool) (left : List ℕ) → KeepsHolds (MetaIn actor die good left) }
+{}

@@ -1,0 +1,12 @@
+pub mod Same
+pub mod Seen
+pub mod Named
+pub mod Renamed
+pub mod Unchanged
+pub mod Flying
+pub mod Created
+pub mod Sealed
+pub mod Released
+pub mod Releasing
+pub mod Removed
+pub mod Quick
