@@ -1,0 +1,13 @@
+pub mod Faults
+pub mod Numbers
+pub mod Layout
+pub mod Header
+pub mod Records
+pub mod Entries
+pub mod Bitmap
+pub mod Tails
+pub mod Image
+pub mod Encoding
+pub mod Tables
+pub mod Reading
+pub mod Whole
