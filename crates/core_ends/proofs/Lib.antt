@@ -1,0 +1,5 @@
+pub mod Landing
+pub mod Returning
+pub mod Plainly
+pub mod Ending
+pub mod Legal
