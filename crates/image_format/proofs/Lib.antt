@@ -12,6 +12,7 @@ pub mod Ends
 pub mod Parts
 pub mod Cut
 pub mod HeaderAgain
+pub mod Imaged
 pub mod RecordAgain
 pub mod BitsAgain
 pub mod EntriesAgain

@@ -16,7 +16,7 @@ pub header_length : (d : Drive) (next : ℕ) → length (header_part d next) ≡
 unfolding header_part
 header_length d next = length_fill 4096 (header_bytes d next) (omega arith)
 
-few_runs : (m : Meta) → IsSound m.extents → IsOneSize m → length (runs m.extents.placed) ≤ m.geometry.blocks
+pub few_runs : (m : Meta) → IsSound m.extents → IsOneSize m → length (runs m.extents.placed) ≤ m.geometry.blocks
 few_runs m sound size = omega (arith, fewer_runs m.extents.placed, sound.count, size.extents)
 
 -- the parts behind page 0, behind the records and behind the entries

@@ -1,5 +1,5 @@
 use super::*;
-use page_base::Page;
+use page_base::{Geometry, Page};
 use std::alloc::{AllocError, Global};
 use std::test::Fail;
 
@@ -164,5 +164,20 @@ fn first_version_becomes_the_second(rt: HostRuntime) -> Result<(), Fail> {
     assert_eq!(rt; again.extents.block_of(2, 0), Some(9));
     assert_eq!(rt; again.names.len(), 3);
     assert!(rt; again.geometry.dies() == 1);
+    Ok(())
+}
+
+// The image of an empty drive mounts, and its first page is the one of meta data.
+#[test]
+fn empty_drive_mounts(rt: HostRuntime) -> Result<(), Fail> {
+    let alloc = rt.alloc();
+    let geometry = Geometry::new(1, 1).ok_or("a geometry")?;
+    let meta = empty_meta(alloc, geometry)?;
+    let image = image_of(alloc, &meta, &[Page::zero(alloc)?])?;
+    assert_eq!(rt; image.len(), 4096 * 132);
+    assert!(rt; mount(alloc, &image).is_ok());
+    let mut page = Page::zero(alloc)?;
+    meta_page(&meta, 0, &mut page);
+    assert_eq!(rt; (page.byte(0), page.byte(4), page.byte(16)), (76, 2, 1));
     Ok(())
 }
