@@ -6,3 +6,15 @@ pub mod Phases
 pub mod Outward
 pub mod Copies
 pub mod Homeward
+pub mod Seeing
+pub mod Moves
+pub mod Quicks
+pub mod Endings
+pub mod Outputs
+pub mod Reaches
+pub mod Lengths
+pub mod Stores
+pub mod Spanning
+pub mod Storing
+pub mod Ends
+pub mod All

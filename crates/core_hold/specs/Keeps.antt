@@ -32,3 +32,8 @@ with_report c worker lane =
 pub record HandsBack (worker lane : ℕ) : Type 0 where
   pub adds : (c c2 : Core) → Coherent c → Happens c (Report worker lane) c2 → hold c2 (Lane lane) ≡ with_report c worker lane
   pub others : (c c2 : Core) (a : Actor) → Coherent c → Happens c (Report worker lane) c2 → a ≢ Worker worker → a ≢ Lane lane → hold c2 a ≡ hold c a
+
+-- so of every event
+abbrev pub HoldsAfter : Event → Type 0
+HoldsAfter (Report worker lane) = HandsBack worker lane
+HoldsAfter e = KeepsHolds e

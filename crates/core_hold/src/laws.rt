@@ -1,11 +1,15 @@
 //! Laws: each is the contract of an empty function.
-ghost use Rattle.std.specs.Prelude.{ℕ, Bool, List};
+ghost use Rattle.std.specs.Prelude.{◌≡◌, ℕ, Bool, List};
 ghost use Rattle.dispatcher.specs.declared.side.Side.{Side};
 ghost use Rattle.plain_files.specs.declared.calls.Request.{Request};
+ghost use Rattle.plain_files.specs.declared.calls.Reply.{Reply};
 ghost use Rattle.core_state.specs.declared.actor.Actor.{Actor};
-ghost use Rattle.core_state.specs.declared.event.Event.TheVariants.{Enter, Leave, Skip, Begin, Submit, Fetch, DieOut, FlushOut, FillIn, FlushIn, MetaIn, Copy, Take, Evict, Demote};
+ghost use Rattle.core_state.specs.declared.event.Event.TheVariants.{Enter, Leave, Quick, Skip, Begin, Submit, Fetch, DieOut, End, FlushOut, FillIn, FlushIn, MetaIn, Copy, Take, Evict, Demote};
+ghost use Rattle.core_state.specs.declared.event.Event.{Event};
 ghost use Rattle.core_state.specs.declared.event.Purpose.{Purpose};
-ghost use Rattle.core_hold.specs.Keeps.{KeepsHolds, HandsBack};
+ghost use Rattle.core_state.specs.State.{Gone, Core};
+ghost use Rattle.core_state.specs.Happens.{Happens};
+ghost use Rattle.core_hold.specs.Keeps.{KeepsHolds, HandsBack, HoldsAfter};
 
 /// A lane that enters leaves what the others hold.
 pub fn enter_holds()
@@ -85,4 +89,21 @@ pub fn flush_in_holds()
 /// A die that comes home from the write of a page of the meta data leaves what the others hold.
 pub fn meta_in_holds()
     ensures { (actor : Actor) (die : ℕ) (good : Bool) (left : List ℕ) → KeepsHolds (MetaIn actor die good left) }
+{}
+
+/// A call that is answered at once leaves what the others hold.
+pub fn quick_holds()
+    ensures { (lane : ℕ) (request : Request) (reply : Reply) → KeepsHolds (Quick lane request reply) }
+{}
+
+/// A call that ends leaves what the others hold.
+pub fn end_holds()
+    ensures { (lane : ℕ) (request : Request) (reply : Reply) → KeepsHolds (End lane request reply) }
+{}
+
+/// What an actor holds, it holds until its own next event: from a coherent core an event of one actor leaves what every other actor holds,
+/// but a Report adds to what the call's lane holds what belonged to the worker. A lane that has left stays so under every event.
+pub fn hold_kept()
+    ensures holds { (e : Event) → HoldsAfter e }
+    ensures gone { (c c2 : Core) (e : Event) (lane : ℕ) → Happens c e c2 → (c.lanes lane).stage ≡ Gone → (c2.lanes lane).stage ≡ Gone }
 {}
