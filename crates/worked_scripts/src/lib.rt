@@ -1,0 +1,5 @@
+//! Worked scripts, from the words of the program to what it prints. It has tests alone.
+#![tactic(auto)]
+
+#[cfg(test)]
+mod tests;
