@@ -14,8 +14,8 @@ use Rattle.extent_map.specs.Places.{Places, count_of, put_in, pages_on, is_used}
 use Rattle.image_format.specs.declared.entries.Awaited.{Awaited}
 use Rattle.image_format.specs.Records.{Stored}
 use Rattle.image_format.specs.Entries.{is_at}
-use Rattle.image_format.specs.Tables.{stored_of, stored_files, placed_of}
-use Rattle.image_format.specs.Reading.{pages_of, IsLast, IsPlaced}
+use Rattle.image_format.specs.Tables.{stored_of, stored_files, placed_of, pages_of}
+use Rattle.image_format.specs.Reading.{IsLast, IsPlaced}
 
 -- ---- files by rising id
 

@@ -8,8 +8,8 @@ use Rattle.std.proofs.lemmas.Bool.Decides.{nat_tests}
 use Rattle.page_base.specs.Bytes.{Pages}
 use Rattle.image_format.specs.Records.{Stored}
 use Rattle.image_format.specs.Entries.{page_after}
-use Rattle.image_format.specs.Tables.{stored_of}
-use Rattle.image_format.specs.Reading.{pages_of, IsAt}
+use Rattle.image_format.specs.Tables.{stored_of, pages_of}
+use Rattle.image_format.specs.Reading.{IsAt}
 
 -- the search goes on from the cursor
 pub from_cursor : (n index page : ℕ) (files : List Stored) → n ≡ pages_of (take index files) + page → page_after n files ≡ page_after page (drop index files)

@@ -13,7 +13,7 @@ use Rattle.image_format.specs.Numbers.{are_zero}
 use Rattle.image_format.specs.Records.{Stored}
 use Rattle.image_format.specs.Bitmap.{is_set}
 use Rattle.image_format.specs.Tails.{Share, shares, data_page, has_tail, tails}
-use Rattle.image_format.specs.Reading.{pages_of}
+use Rattle.image_format.specs.Tables.{pages_of}
 
 -- ---- one file
 

@@ -17,8 +17,7 @@ use Rattle.image_format.specs.Numbers.{u32_at}
 use Rattle.image_format.specs.Records.{Stored}
 use Rattle.image_format.specs.Entries.{Cover, page_after, is_at, is_in, entry_in, unused_entry, used_entry, one_entry, entries}
 use Rattle.image_format.specs.Encoding.{entry_bytes}
-use Rattle.image_format.specs.Tables.{placed_of}
-use Rattle.image_format.specs.Reading.{pages_of}
+use Rattle.image_format.specs.Tables.{placed_of, pages_of}
 use Rattle.image_format.proofs.Areas.{length_range}
 use Rattle.image_format.proofs.Covers.{Rise, any_inside, blocks_of_pages}
 use Rattle.image_format.proofs.Entered.{is_next_entry, entered}

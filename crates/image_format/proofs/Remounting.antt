@@ -24,8 +24,7 @@ use Rattle.image_format.specs.Bitmap.{is_set}
 use Rattle.image_format.specs.Tails.{Share, shares, data_page, has_tail, tails}
 use Rattle.image_format.specs.Image.{Parts, parts, meant, files_in, blocks_of, read_image, File, Mounted, mounts_to}
 use Rattle.image_format.specs.Encoding.{header_bytes, record_bytes, entry_bytes, header_part, record_part, entry_part, bits_part, meta_bytes, image_bytes}
-use Rattle.image_format.specs.Tables.{stored_of, stored_files, blocks_in, placed_of}
-use Rattle.image_format.specs.Reading.{pages_of}
+use Rattle.image_format.specs.Tables.{stored_of, stored_files, blocks_in, placed_of, pages_of}
 use Rattle.image_format.specs.Whole.{content_of, goes_on, IsWhole, IsValid, Remounts}
 use Rattle.image_format.proofs.Areas.{length_flat}
 use Rattle.image_format.proofs.Written.{all_records, all_entries, record_length, entry_length, bits_length, fewer_runs}

@@ -12,7 +12,7 @@ use Rattle.image_format.specs.Layout.{layout, record_pages, entry_pages, bit_pag
 use Rattle.image_format.specs.Records.{Stored, Listing}
 use Rattle.image_format.specs.Entries.{Cover}
 use Rattle.image_format.specs.Image.{Parts, Image}
-use Rattle.image_format.specs.Tables.{stored_files, blocks_in, placed_of}
+use Rattle.image_format.specs.Tables.{stored_files, blocks_in, placed_of, pages_of}
 
 abbrev pub listing : Listed → Listing
 listing l = record { files = stored_files l.names; last = l.last; ended = l.ended }
@@ -23,11 +23,6 @@ with_file t id name len sealed = record { files = t.files ++ record { id = id; n
 
 abbrev pub cover : Covered → Cover
 cover c = record { blocks = blocks_in c.map; ended = c.ended }
-
--- the pages of some files
-abbrev pub pages_of : List Stored → ℕ
-pages_of [] = 0
-pages_of (f ∷ fs) = Pages f.len + pages_of fs
 
 -- so many pages come before this page of this file, counted from 0
 pub record IsAt (n index page : ℕ) (files : List Stored) : Type 0 where

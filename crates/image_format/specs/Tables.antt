@@ -1,5 +1,5 @@
 -- How the tables of meta data stand for what an image says.
-use Rattle.std.specs.Prelude.{ℕ, ◌≡◌, List, [], ◌∷◌, ◌++◌, length, take, drop, map, ◌==◌, if◌then◌else◌, Result, Ok, Err}
+use Rattle.std.specs.Prelude.{ℕ, ◌+◌, ◌≡◌, List, [], ◌∷◌, ◌++◌, length, take, drop, map, ◌==◌, if◌then◌else◌, Result, Ok, Err}
 use Rattle.std.specs.List.{range_with_len}
 use Rattle.page_base.specs.Bytes.{Pages}
 use Rattle.page_base.specs.Drive.{meta_pages}
@@ -26,7 +26,12 @@ stored_files t = map stored_of t.files
 abbrev pub blocks_in : Places → List ℕ
 blocks_in s = map (λ p. p.block) s.placed
 
--- the pages of the files with these blocks, in order
+-- how many pages the files have
+abbrev pub pages_of : List Stored → ℕ
+pages_of [] = 0
+pages_of (f ∷ fs) = Pages f.len + pages_of fs
+
+-- the places of the files' pages, with these blocks in order
 abbrev pub placed_of : List Stored → List ℕ → List Place
 placed_of [] blocks = []
 placed_of (f ∷ fs) blocks = pages_on f.id 0 (take (Pages f.len) blocks) ++ placed_of fs (drop (Pages f.len) blocks)

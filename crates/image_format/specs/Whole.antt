@@ -9,8 +9,7 @@ use Rattle.image_format.specs.Numbers.{are_zero}
 use Rattle.image_format.specs.Tails.{Share, shares}
 use Rattle.image_format.specs.Image.{File, Mounted, mounts_to}
 use Rattle.image_format.specs.Encoding.{image_bytes}
-use Rattle.image_format.specs.Tables.{stored_files, blocks_in, placed_of, IsOneSize}
-use Rattle.image_format.specs.Reading.{pages_of}
+use Rattle.image_format.specs.Tables.{stored_files, blocks_in, placed_of, IsOneSize, pages_of}
 
 -- a data block
 abbrev pub block_at : List (List ℕ) → ℕ → List ℕ

@@ -3,8 +3,8 @@ ghost use Rattle.std.specs.Prelude.{ℕ, ◌≡◌, ◌≤◌, ◌<◌, ◌+◌,
 ghost use Rattle.page_base.specs.Bytes.{Pages};
 ghost use Rattle.image_format.specs.Faults.{Gives};
 ghost use Rattle.image_format.specs.Entries.{entry_in, page_after, is_at, unused_entry, used_entry, one_entry, entries, covered};
-ghost use Rattle.image_format.specs.Tables.{stored_files};
-ghost use Rattle.image_format.specs.Reading.{cover, pages_of, IsPlaced, IsLast};
+ghost use Rattle.image_format.specs.Tables.{stored_files, pages_of};
+ghost use Rattle.image_format.specs.Reading.{cover, IsPlaced, IsLast};
 
 use crate::faults::{ImageFault, ImageKind, MountErr};
 use crate::numbers::{are_zero, demand, u32_at};

@@ -7,8 +7,8 @@ ghost use Rattle.image_format.specs.Header.{image_length};
 ghost use Rattle.image_format.specs.Layout.{layout, record_pages, entry_pages};
 ghost use Rattle.image_format.specs.Image.{parts, meant, files_in, blocks_of, read_image};
 ghost use Rattle.image_format.specs.Encoding.{meta_page};
-ghost use Rattle.image_format.specs.Tables.{stored_files, blocks_in, placed_of, pages_from, own_pages, IsOneSize, Mounts};
-ghost use Rattle.image_format.specs.Reading.{parts_of, image_of, pages_of, HasSizes};
+ghost use Rattle.image_format.specs.Tables.{stored_files, blocks_in, placed_of, pages_from, own_pages, IsOneSize, Mounts, pages_of};
+ghost use Rattle.image_format.specs.Reading.{parts_of, image_of, HasSizes};
 
 use crate::bitmap::{bitmap, written_in};
 use crate::entries::{Covered, all_covered, entries};

@@ -3,8 +3,7 @@ ghost use Rattle.std.specs.Prelude.{◌≡◌, ◌≤◌, ◌<◌, ◌+◌, ◌*
 ghost use Rattle.image_format.specs.Faults.{Gives};
 ghost use Rattle.page_base.specs.Bytes.{Pages};
 ghost use Rattle.image_format.specs.Tails.{Share, data_page, tails, shares, has_tail};
-ghost use Rattle.image_format.specs.Tables.{blocks_in, stored_files};
-ghost use Rattle.image_format.specs.Reading.{pages_of};
+ghost use Rattle.image_format.specs.Tables.{blocks_in, stored_files, pages_of};
 
 use crate::bitmap::is_set;
 use crate::entries::page_count;

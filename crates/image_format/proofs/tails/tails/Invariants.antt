@@ -1,8 +1,7 @@
 use Rattle.std.proofs.Common.{◌≡◌, ◌-◌, ◌+◌, length, drop}
 use Rattle.std.specs.List.{find}
 use Rattle.image_format.specs.Tails.{shares, has_tail}
-use Rattle.image_format.specs.Tables.{stored_files, blocks_in}
-use Rattle.image_format.specs.Reading.{pages_of}
+use Rattle.image_format.specs.Tables.{stored_files, blocks_in, pages_of}
 use Rattle.image_format.proofs.tails.tails.Given as goal
 
 abbrev pub invariant-loop-file : goal.invariant-loop-file
