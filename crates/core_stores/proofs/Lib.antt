@@ -1,0 +1,15 @@
+pub mod Free
+pub mod Reached
+pub mod Answers
+pub mod Named
+pub mod Others
+pub mod Became
+pub mod Runs
+pub mod Claims
+pub mod Results
+pub mod Keeping
+pub mod Placing
+pub mod Storing
+pub mod Ending
+pub mod Ends
+pub mod Folds

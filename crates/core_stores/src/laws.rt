@@ -1,0 +1,35 @@
+//! Laws: each is the contract of an empty function.
+ghost use Rattle.std.specs.Prelude.{ℕ, ◌≡◌, true, false, List};
+ghost use Rattle.plain_files.specs.declared.calls.Reply.{Reply};
+ghost use Rattle.plain_files.specs.declared.calls.Request.{Request};
+ghost use Rattle.plain_files.specs.History.{Legal};
+ghost use Rattle.core_state.specs.declared.event.Event.{Event};
+ghost use Rattle.core_state.specs.PlainOf.{plain};
+ghost use Rattle.core_state.specs.History.{calls_of};
+ghost use Rattle.core_state.specs.declared.event.Event.TheVariants.{End};
+ghost use Rattle.core_state.specs.State.{Core};
+ghost use Rattle.core_state.specs.PageEvents.{flight_at};
+ghost use Rattle.core_state.specs.EndEvent.{has_changed};
+ghost use Rattle.core_state.specs.Coherent.{Coherent};
+ghost use Rattle.core_state.specs.Happens.{Happens, CoreRun};
+
+/// A call that ends and has stored keeps a core coherent.
+pub fn storing_end_kept()
+    ensures { (lane : ℕ) (request : Request) (reply : Reply) (c c2 : Core) → Coherent c → Happens c (End lane request reply) c2 →
+        (c.lanes lane).mark ≡ false → has_changed (flight_at c.calls lane) reply ≡ true → Coherent c2 }
+{}
+
+/// A call that ends keeps a core coherent, whatever it did.
+pub fn end_kept()
+    ensures { (lane : ℕ) (request : Request) (reply : Reply) (c c2 : Core) → Coherent c → Happens c (End lane request reply) c2 → Coherent c2 }
+{}
+
+/// Every list of events leads from a coherent core to a coherent one.
+pub fn coherent_kept()
+    ensures { (c0 c1 : Core) (events : List Event) → Coherent c0 → CoreRun c0 events c1 → Coherent c1 }
+{}
+
+/// The calls of a run from a coherent core are legal on plain files: from its first plain state to its last.
+pub fn calls_legal()
+    ensures { (c0 c1 : Core) (events : List Event) → Coherent c0 → CoreRun c0 events c1 → Legal (plain c0) (calls_of events) (plain c1) }
+{}
