@@ -24,22 +24,10 @@ told_cause words command (refused.Absent name) before after asked decided names 
     (command, asked, record { name = name; wants = decided.0; lacks = decided.1; told = told })
 told_cause words command (refused.ReadFault name) before after asked decided names told =
     (command, asked, record { name = name; wants = decided.0; there = decided.1; failed = decided.2; told = told })
-told_cause words command (refused.BadText fault) before after asked decided names told =
-    (command, asked, record { refusal = refused.BadText fault; comes = decided; status = refl; told = told })
-told_cause words command (refused.BadObject fault) before after asked decided names told =
-    (command, asked, record { refusal = refused.BadObject fault; comes = decided; status = refl; told = told })
-told_cause words command (refused.BadScript fault) before after asked decided names told =
-    (command, asked, record { refusal = refused.BadScript fault; comes = decided; status = refl; told = told })
-told_cause words command (refused.BadDie line) before after asked decided names told =
-    (command, asked, record { refusal = refused.BadDie line; comes = decided; status = refl; told = told })
-told_cause words command (refused.BadTranscript line) before after asked decided names told =
-    (command, asked, record { refusal = refused.BadTranscript line; comes = decided; status = refl; told = told })
-told_cause words command (refused.Differs number expected) before after asked decided names told =
-    (command, asked, record { refusal = refused.Differs number expected; comes = decided; status = refl; told = told })
-told_cause words command (refused.Disordered number) before after asked decided names told =
-    (command, asked, record { refusal = refused.Disordered number; comes = decided; status = refl; told = told })
 told_cause words command refused.NoMemory before after asked decided names told =
     (command, asked, inl (none_done before after names (nothing_told before.written after.written before.sink_faults after.sink_faults told)))
+told_cause words command refusal before after asked decided names told =
+    (command, asked, record { refusal = refusal; comes = decided; status = refl; told = told })
 
 is_some_parts : {A : Type 0} → (o : Option A) → IsSome o → (x : A) × (o ≡ Some x)
 is_some_parts None is = cc
@@ -99,8 +87,4 @@ performed_cause words command acts before late after status.NoMemory asked comes
     },
   ),
 )
-performed_cause words command acts before late after status.Usage asked comes names written room sink is = absurd is
-performed_cause words command acts before late after status.Absent asked comes names written room sink is = absurd is
-performed_cause words command acts before late after status.ReadFault asked comes names written room sink is = absurd is
-performed_cause words command acts before late after status.BadInput asked comes names written room sink is = absurd is
-performed_cause words command acts before late after status.Differs asked comes names written room sink is = absurd is
+performed_cause words command acts before late after answer asked comes names written room sink is = absurd is

@@ -65,6 +65,7 @@ usage_exact words before after status.Ok cause none = absurd (asks_for_none word
 usage_exact words before after status.Usage cause none = refl
 usage_exact words before after status.Absent cause none = absurd (asks_for_none words (IsAbsent before after) none cause)
 usage_exact words before after status.ReadFault cause none = absurd (asks_for_none words (IsUnread before after) none cause)
+usage_exact words before after status.BadImage cause none = absurd (asks_for_none words (IsRefused status.BadImage before after) none cause)
 usage_exact words before after status.BadInput cause none = absurd (asks_for_none words (IsRefused status.BadInput before after) none cause)
 usage_exact words before after status.Differs cause none = absurd (asks_for_none words (IsRefused status.Differs before after) none cause)
 usage_exact words before after status.WriteFault cause none = absurd (asks_for_none words (IsUnfinished before after) none cause)
@@ -77,6 +78,9 @@ absent_exact words before after status.Ok command name cause asked is wants lack
 absent_exact words before after status.Usage command name cause asked is wants lacks = absurd (no_command words command cause.0 asked)
 absent_exact words before after status.Absent command name cause asked is wants lacks = inl refl
 absent_exact words before after status.ReadFault command name cause asked is wants lacks = inr (inr refl)
+absent_exact words before after status.BadImage command name cause asked is wants lacks =
+    let refused = at_command words (IsRefused status.BadImage before after) command asked cause in
+    absurd (wants_no_finish before.names (work_of command) name (refuses refused.refusal) is wants lacks refused.comes)
 absent_exact words before after status.BadInput command name cause asked is wants lacks =
     let refused = at_command words (IsRefused status.BadInput before after) command asked cause in
     absurd (wants_no_finish before.names (work_of command) name (refuses refused.refusal) is wants lacks refused.comes)
@@ -106,6 +110,9 @@ refused_exact words before after status.Absent command refusal cause asked is co
     let absent = at_command words (IsAbsent before after) command asked cause in
     absurd (wants_no_finish before.names (work_of command) absent.name (refuses refusal) is absent.wants absent.lacks comes)
 refused_exact words before after status.ReadFault command refusal cause asked is comes = inr (inr refl)
+refused_exact words before after status.BadImage command refusal cause asked is comes =
+    let refused = at_command words (IsRefused status.BadImage before after) command asked cause in
+    inl (sym refused.status ∙ ap status_of (one_refusal before.names (work_of command) refused.refusal refusal is refused.comes comes))
 refused_exact words before after status.BadInput command refusal cause asked is comes =
     let refused = at_command words (IsRefused status.BadInput before after) command asked cause in
     inl (sym refused.status ∙ ap status_of (one_refusal before.names (work_of command) refused.refusal refusal is refused.comes comes))
@@ -138,6 +145,9 @@ complete words before after status.Absent command finish cause asked is comes ca
     absurd (wants_no_finish before.names (work_of command) absent.name finish is absent.wants absent.lacks comes)
 complete words before after status.ReadFault command finish cause asked is comes calm quiet =
     absurd (calm (at_command words (IsUnread before after) command asked cause).failed)
+complete words before after status.BadImage command finish cause asked is comes calm quiet =
+    let refused = at_command words (IsRefused status.BadImage before after) command asked cause in
+    inl (sym refused.status ∙ ap status_at (comes_once before.names (work_of command) (refuses refused.refusal) finish is refused.comes comes))
 complete words before after status.BadInput command finish cause asked is comes calm quiet =
     let refused = at_command words (IsRefused status.BadInput before after) command asked cause in
     inl (sym refused.status ∙ ap status_at (comes_once before.names (work_of command) (refuses refused.refusal) finish is refused.comes comes))

@@ -26,6 +26,7 @@ use Rattle.stack_top.specs.declared.words.Command.TheVariants as command
 use Rattle.stack_top.specs.Acts.{has_store, is_store, behind}
 use Rattle.stack_top.specs.Assembling.{object_acts, judged_code, assembled}
 use Rattle.stack_top.specs.Commands.{work_of, out_of}
+use Rattle.stack_top.specs.Making.{empty_image, image_acts}
 use Rattle.stack_top.specs.Moments.{Edge}
 use Rattle.stack_top.specs.Objects.{shown, accepted_line}
 use Rattle.stack_top.specs.Performed.{IsCutShort, IsLeftOff}
@@ -42,6 +43,9 @@ use Rattle.stack_top.proofs.ActsDone.{both_false, front_reads_only, stored-none,
 no_name : (b : Bool) (name : List ℕ) → (if b then None else Some name) ≡ None → b ≡ true
 no_name true name is = refl
 no_name false name is = cc
+
+made_reads_only : (out image : List ℕ) (acts : List Act) → bytes_eq out (codes "-") ≡ true → acts ≡ image_acts out image → has_store acts ≡ false
+made_reads_only out image acts dash are = ap has_store are ∙ rw dash refl
 
 object_reads_only : (out : List ℕ) (code : List Insn) (acts : List Act) → bytes_eq out (codes "-") ≡ true → acts ≡ object_acts out code → has_store acts ≡ false
 object_reads_only out code acts dash are = ap has_store are ∙ rw dash refl
@@ -74,6 +78,9 @@ checked_reads_only script (Err line) acts are = absurd are
 
 -- the acts of a command without a name to write under
 reads_only : (told : Option Names) (asked : Command) (acts : List Act) → out_of asked ≡ None → ComesToDo told (work_of asked) acts → has_store acts ≡ false
+reads_only told (command.MakeImage out drive) acts none is =
+    let P : Finish → Type 0 = λ f. AreActs f acts in
+    made_reads_only out (empty_image drive) acts (no_name (bytes_eq out (codes "-")) out none) (subst P (sym is.comes) is.are)
 reads_only told (command.Asm source out) acts none is =
     let P : Finish → Type 0 = λ f. AreActs f acts in
     asm_reads_only out (asm is.comes.0) acts (no_name (bytes_eq out (codes "-")) out none) (subst P (sym is.comes.2) is.are)
@@ -119,11 +126,7 @@ kept words before after status.WriteFault asked cause same is none =
     cut_reads_only before after cut.0 (reads_only before.names asked cut.0 none cut.1) cut.2
 kept words before after status.NoMemory asked cause same is none =
     forgone_reads_only before after asked none (at_command words (IsForgone before after) asked is cause)
-kept words before after status.Usage asked cause same is none = same (λ written. written)
-kept words before after status.Absent asked cause same is none = same (λ written. written)
-kept words before after status.ReadFault asked cause same is none = same (λ written. written)
-kept words before after status.BadInput asked cause same is none = same (λ written. written)
-kept words before after status.Differs asked cause same is none = same (λ written. written)
+kept words before after answer asked cause same is none = same (λ written. written)
 
 -- the room keeps its names, where each status has its cause
 pub keeps : (words : List (List ℕ)) (before after : Edge) (answer : Status) → Cause words before after answer → (¬ IsWritten answer → after.names ≡ before.names) → Keeps words before.names after.names answer

@@ -19,13 +19,7 @@ unread told before now name next (refused.Absent other) is =
 unread told before now name next (refused.ReadFault other) is =
     let P : List ℕ → Type 0 = λ n. HasName told n in (inl (sym is.0), subst P (sym is.0) is.1, is.2)
 unread told before now name next refused.NoMemory is = is
-unread told before now name next (refused.BadText fault) is = absurd is
-unread told before now name next (refused.BadObject fault) is = absurd is
-unread told before now name next (refused.BadScript fault) is = absurd is
-unread told before now name next (refused.BadDie line) is = absurd is
-unread told before now name next (refused.BadTranscript line) is = absurd is
-unread told before now name next (refused.Differs number expected) is = absurd is
-unread told before now name next (refused.Disordered number) is = absurd is
+unread told before now name next refusal is = absurd is
 
 -- the one file that is read was read
 pub finished : (told : Option Names) (before now : ℕ) (name bytes : List ℕ) (finish : List ℕ → Finish) (result : Result (List Act) Refusal) → IsUnder told name bytes → IsFinished (finish bytes) result → IsDecided told before now (reads name (λ x. ends (finish x))) result
@@ -33,13 +27,7 @@ finished told before now name bytes finish (Ok acts) under is = record { finish 
 finished told before now name bytes finish (Err refused.NoMemory) under is = is
 finished told before now name bytes finish (Err (refused.Absent other)) under is = absurd is
 finished told before now name bytes finish (Err (refused.ReadFault other)) under is = absurd is
-finished told before now name bytes finish (Err (refused.BadText fault)) under is = (bytes, under, is)
-finished told before now name bytes finish (Err (refused.BadObject fault)) under is = (bytes, under, is)
-finished told before now name bytes finish (Err (refused.BadScript fault)) under is = (bytes, under, is)
-finished told before now name bytes finish (Err (refused.BadDie line)) under is = (bytes, under, is)
-finished told before now name bytes finish (Err (refused.BadTranscript line)) under is = (bytes, under, is)
-finished told before now name bytes finish (Err (refused.Differs number expected)) under is = (bytes, under, is)
-finished told before now name bytes finish (Err (refused.Disordered number)) under is = (bytes, under, is)
+finished told before now name bytes finish (Err refusal) under is = (bytes, under, is)
 
 -- ---- scripts
 
@@ -64,13 +52,7 @@ pub unfit : (dies : ℕ) (told : Option Names) (before now : ℕ) (name bytes : 
 unfit dies told before now name bytes next (refused.Absent other) under is = absurd is
 unfit dies told before now name bytes next (refused.ReadFault other) under is = absurd is
 unfit dies told before now name bytes next refused.NoMemory under is = is
-unfit dies told before now name bytes next (refused.BadText fault) under is = comes_refused dies told name bytes next (refused.BadText fault) under is
-unfit dies told before now name bytes next (refused.BadObject fault) under is = comes_refused dies told name bytes next (refused.BadObject fault) under is
-unfit dies told before now name bytes next (refused.BadScript fault) under is = comes_refused dies told name bytes next (refused.BadScript fault) under is
-unfit dies told before now name bytes next (refused.BadDie line) under is = comes_refused dies told name bytes next (refused.BadDie line) under is
-unfit dies told before now name bytes next (refused.BadTranscript line) under is = comes_refused dies told name bytes next (refused.BadTranscript line) under is
-unfit dies told before now name bytes next (refused.Differs number expected) under is = comes_refused dies told name bytes next (refused.Differs number expected) under is
-unfit dies told before now name bytes next (refused.Disordered number) under is = comes_refused dies told name bytes next (refused.Disordered number) under is
+unfit dies told before now name bytes next refusal under is = comes_refused dies told name bytes next refusal under is
 
 pub held_script : (dies : ℕ) (told : Option Names) (name bytes : List ℕ) (result : Result Script Refusal) → IsUnder told name bytes → IsScript (script_in dies (read_script bytes)) result → IfOk result (IsHeldScript dies told name)
 held_script dies told name bytes (Ok script) under is = record { bytes = bytes; under = under; is = is }
@@ -89,13 +71,7 @@ after_script dies told before middle now name script next (Err (refused.Absent o
 after_script dies told before middle now name script next (Err (refused.ReadFault other)) held later is =
     (wants_after dies told name other script next held is.0, is.1, rose_since before middle now later is.2)
 after_script dies told before middle now name script next (Err refused.NoMemory) held later is = is
-after_script dies told before middle now name script next (Err (refused.BadText fault)) held later is = comes_after dies told name script next (refuses (refused.BadText fault)) held is
-after_script dies told before middle now name script next (Err (refused.BadObject fault)) held later is = comes_after dies told name script next (refuses (refused.BadObject fault)) held is
-after_script dies told before middle now name script next (Err (refused.BadScript fault)) held later is = comes_after dies told name script next (refuses (refused.BadScript fault)) held is
-after_script dies told before middle now name script next (Err (refused.BadDie line)) held later is = comes_after dies told name script next (refuses (refused.BadDie line)) held is
-after_script dies told before middle now name script next (Err (refused.BadTranscript line)) held later is = comes_after dies told name script next (refuses (refused.BadTranscript line)) held is
-after_script dies told before middle now name script next (Err (refused.Differs number expected)) held later is = comes_after dies told name script next (refuses (refused.Differs number expected)) held is
-after_script dies told before middle now name script next (Err (refused.Disordered number)) held later is = comes_after dies told name script next (refuses (refused.Disordered number)) held is
+after_script dies told before middle now name script next (Err refusal) held later is = comes_after dies told name script next (refuses refusal) held is
 
 -- a finish is a work that reads nothing more
 pub at_finish : (told : Option Names) (before now : ℕ) (finish : Finish) (result : Result (List Act) Refusal) → IsFinished finish result → IsDecided told before now (ends finish) result
@@ -103,10 +79,4 @@ at_finish told before now finish (Ok acts) is = record { finish = finish; comes 
 at_finish told before now finish (Err (refused.Absent other)) is = absurd is
 at_finish told before now finish (Err (refused.ReadFault other)) is = absurd is
 at_finish told before now finish (Err refused.NoMemory) is = is
-at_finish told before now finish (Err (refused.BadText fault)) is = is
-at_finish told before now finish (Err (refused.BadObject fault)) is = is
-at_finish told before now finish (Err (refused.BadScript fault)) is = is
-at_finish told before now finish (Err (refused.BadDie line)) is = is
-at_finish told before now finish (Err (refused.BadTranscript line)) is = is
-at_finish told before now finish (Err (refused.Differs number expected)) is = is
-at_finish told before now finish (Err (refused.Disordered number)) is = is
+at_finish told before now finish (Err refusal) is = is

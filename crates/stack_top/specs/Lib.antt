@@ -8,6 +8,7 @@ pub mod Works
 pub mod Decided
 pub mod Performed
 pub mod Assembling
+pub mod Making
 pub mod Objects
 pub mod Scripts
 pub mod Checking

@@ -59,6 +59,7 @@ Cause words before after status.Ok = AsksFor words (IsDone before after)
 Cause words before after status.Usage = (command_of words ≡ None) × Told before after usage_line
 Cause words before after status.Absent = AsksFor words (IsAbsent before after)
 Cause words before after status.ReadFault = AsksFor words (IsUnread before after)
+Cause words before after status.BadImage = AsksFor words (IsRefused status.BadImage before after)
 Cause words before after status.BadInput = AsksFor words (IsRefused status.BadInput before after)
 Cause words before after status.Differs = AsksFor words (IsRefused status.Differs before after)
 Cause words before after status.WriteFault = AsksFor words (IsUnfinished before after)

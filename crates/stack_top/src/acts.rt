@@ -14,6 +14,13 @@ pub enum Act {
     Print(Text),
 }
 
+// The same text again.
+pub fn copy_of(alloc: Global, text: &Text) -> Result<Text, AllocError>
+    ensures { IfOk result (λ copy. copy ≡ text.now) }
+{
+    Ok(Text::new(String::from_str(alloc, text.as_str())?))
+}
+
 // The one act that prints a text.
 pub fn print(alloc: Global, text: Text) -> Result<Listed<Act>, AllocError>
     ensures { IfOk result (λ acts. acts ≡ Print text ∷ []) }

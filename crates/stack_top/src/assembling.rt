@@ -5,7 +5,7 @@ ghost use Rattle.sbpf_text.specs.Asm.{asm};
 ghost use Rattle.stack_top.specs.Assembling.{slots_line, object_acts, judged_code, assembled, asm_work};
 ghost use Rattle.stack_top.specs.Decided.{IsFinished, IsDecided};
 
-use crate::acts::Act;
+use crate::acts::{Act, copy_of};
 use crate::reading::read_named;
 use crate::refusal::{ObjectFault, Refusal};
 use edge_io::{Bytes, Listed, Room, Text};
@@ -28,7 +28,7 @@ fn object_acts(alloc: Global, out: &Text, code: &Verified) -> Result<Listed<Act>
     let line = Text::new(slots_line(alloc, code)?);
     let mut acts = Listed::new(Vec::new(alloc));
     if out.as_str() != "-" {
-        let name = Text::new(String::from_str(alloc, out.as_str())?);
+        let name = copy_of(alloc, out)?;
         let bytes = Bytes::new(write_object(alloc, code)?);
         acts.push(Act::Store { name, bytes })?;
     }

@@ -7,6 +7,7 @@ ghost use Rattle.stack_top.specs.Decided.{IsDecided};
 use crate::acts::Act;
 use crate::assembling::asm;
 use crate::checking::check;
+use crate::making::mkimage;
 use crate::objects::{disasm, verify};
 use crate::refusal::Refusal;
 use crate::scripts::solo;
@@ -25,6 +26,7 @@ pub fn decided<R: Room>(
     ensures later { R.faults room.old ≤ R.faults room.new }
 {
     match command {
+        Command::MakeImage { out, geometry } => mkimage(alloc, out, *geometry),
         Command::Asm { source, out } => asm(alloc, room, source, out),
         Command::Disasm { object } => disasm(alloc, room, object),
         Command::Verify { object } => verify(alloc, room, object),

@@ -85,6 +85,15 @@ fn scripts_give_their_transcripts(rt: HostRuntime) -> Result<(), Fail> {
 fn refusals_have_their_last_lines(rt: HostRuntime) -> Result<(), Fail> {
     let alloc = rt.alloc();
     for (line, script, status, last) in [
+        ("mkimage o 1", "", Status::Usage, "usage\n"),
+        ("mkimage o 1 1 1", "", Status::Usage, "usage\n"),
+        ("mkimage --o 1 1", "", Status::Usage, "usage\n"),
+        ("mkimage o 0 1", "", Status::Usage, "usage\n"),
+        ("mkimage o 01 1", "", Status::Usage, "usage\n"),
+        ("mkimage o +1 1", "", Status::Usage, "usage\n"),
+        ("mkimage o 65537 1", "", Status::Usage, "usage\n"),
+        ("mkimage o 1 17", "", Status::Usage, "usage\n"),
+        ("mkimage - 1 16", "", Status::Ok, "image bytes=540672\n"),
         ("asm S", "", Status::Usage, "usage\n"),
         ("asm S --", "", Status::Usage, "usage\n"),
         ("verify", "", Status::Usage, "usage\n"),

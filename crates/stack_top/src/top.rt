@@ -28,10 +28,11 @@ fn refuse<O: Sink>(alloc: Global, out: &mut O, refusal: &Refusal) -> Status
 /// All that the program does with its words, the words behind its own name: it reads from the room,
 /// decides, writes to the room, prints to the sink, and says how it ends. It always returns.
 ///
-/// `asm SRC OUT` writes the object of an assembler text and prints `slots N`; `disasm OBJ` prints the
-/// text of an object and `verify OBJ` the line `accepted N`; `solo - SCRIPT -` prints the transcript of
-/// a script, and `check - SCRIPT TRANSCRIPT` whether a transcript is one that it may have. All other words are outside the grammar. `-` as OUT writes nothing. The last line of a
-/// refusal is printed as far as the sink takes it.
+/// `mkimage OUT BLOCKS DIES` writes the image of an empty drive and prints `image bytes=N`; `asm SRC OUT`
+/// writes the object of an assembler text and prints `slots N`; `disasm OBJ` prints the text of an object
+/// and `verify OBJ` the line `accepted N`; `solo - SCRIPT -` prints the transcript of a script, and
+/// `check - SCRIPT TRANSCRIPT` whether a transcript is one that it may have. All other words are outside
+/// the grammar. `-` as OUT writes nothing. The last line of a refusal is printed as far as the sink takes it.
 pub fn stack_quiet<R: Room, O: Sink>(
     alloc: Global,
     words: &[String],
