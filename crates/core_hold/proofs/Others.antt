@@ -1,4 +1,4 @@
--- The blocks and places that the other calls in flight have, where a call that stores ends: they stay.
+-- A call that stores, at its end: its file has new bytes, and the other calls in flight keep their blocks and places.
 use Rattle.std.proofs.Common.{◌≡◌, ℕ, ◌+◌, ◌-◌, ◌<◌, ◌≤◌, Bool, true, false, List, [], ◌∷◌, ◌++◌, length, take, Option, Some, None, refl, sym, ap, ◌∙◌, subst, ⊎_elim, arith}
 use Rattle.std.specs.Prelude.{◌≢◌, ◌==◌, nat_lt, option_map, is_some, if◌then◌else◌, bytes_eq}
 use Rattle.std.specs.List.{Contains, find, slice_get}
@@ -8,16 +8,16 @@ use Rattle.index_lists.proofs.Counts.{same_or_not}
 use Rattle.plain_files.specs.declared.calls.PlainFile.{PlainFile}
 use Rattle.plain_files.specs.Lists.{with_changed}
 use Rattle.plain_files.specs.Plain.{State, file_of, is_file}
-use Rattle.core_state.specs.State.{Block, File, Places, Mode, Shared, Exclusive, Reach, Claim, Flight, Core}
+use Rattle.core_state.specs.State.{Block, File, Places, Exclusive, Reach, Claim, Flight, Core}
 use Rattle.core_state.specs.Contents.{contents, span_block}
-use Rattle.core_state.specs.Reach.{file_word, file_by, id_or_none, len_or_none, reach_of}
+use Rattle.core_state.specs.Reach.{file_word, file_by, file_for, id_or_none, len_or_none, reach_of}
 use Rattle.core_state.specs.PlainOf.{plain_file, plain, bytes_or_none, bytes_by_id, page_at}
 use Rattle.core_state.specs.InFlight.{claim_of, InRange, IsRight}
 use Rattle.core_state.specs.Coherent.{Coherent}
 use Rattle.core_state.specs.Resizing.{free_blocks, blocks_between, new_places, renewed_in}
 use Rattle.core_state.specs.EndEvent.{with_span}
 use Rattle.core_lemmas.proofs.Words.{same_some}
-use Rattle.core_lemmas.proofs.Spans.{listed-none, pages_fit, span_in, only_span, file_in}
+use Rattle.core_lemmas.proofs.Spans.{listed-none, pages_fit, span_in, only_span, file_in, not_both}
 use Rattle.core_lemmas.proofs.Finds.{found_passes}
 use Rattle.core_lemmas.proofs.Views.{file_seen}
 use Rattle.core_quick.proofs.Named.{in_here, in_there, in_map, one_of_id}
@@ -25,7 +25,7 @@ use Rattle.core_hold.proofs.Moves.{not_fresh, out_of_both, stays_so, other_stays
 use Rattle.core_hold.proofs.Quicks.{other_place}
 use Rattle.core_hold.proofs.Reaches.{Stretches, Apart, none_added, none_cut}
 use Rattle.core_hold.proofs.Spanning.{span_stays, fresh_listed, own_place, page_stays, page_was}
-use Rattle.core_hold.proofs.Storing.{IsStoring}
+use Rattle.core_hold.proofs.Stores.{IsStored}
 
 -- ---- the new bytes are found
 
@@ -57,6 +57,12 @@ found_by_id name change (x ∷ xs) g same alone e = go (is_file name x) refl e (
 
 -- ---- the call that ends
 
+pub record IsStoring (c : Core) (lane : ℕ) (call : Flight) (f : File) (s2 : State) : Type 0 where
+  pub flies : c.calls lane ≡ Some call
+  pub found : file_for c.names.files call.claim.request.call ≡ Some f
+  pub mode : call.claim.reach.mode ≡ Exclusive
+  pub stored : IsStored (plain c) s2 call.claim.request.call f.len
+
 abbrev pub changing : List ℕ → PlainFile → PlainFile
 changing new file = record file { bytes = new }
 
@@ -72,10 +78,10 @@ there c lane call f s2 g = file_in c.names.files (file_word call.claim.request.c
 pub plain_by_name : (c : Core) (lane : ℕ) (call : Flight) (f : File) (s2 : State) (g : IsStoring c lane call f s2) → file_of g.stored.name (plain c).files ≡ Some (plain_file c.places (contents c.blocks) f)
 plain_by_name c lane call f s2 g = file_seen c.shape c.names c.places (contents c.blocks) g.stored.name ∙ ap (option_map (plain_file c.places (contents c.blocks))) (by_name c lane call f s2 g)
 
-pub new_len : (c : Core) (lane : ℕ) (call : Flight) (f : File) (s2 : State) → Coherent c → (g : IsStoring c lane call f s2) → length (bytes_by_id s2 f.id) ≡ length g.stored.new
-new_len c lane call f s2 h g =
-    ap (λ (s : State). length (bytes_by_id s f.id)) g.stored.state
-    ∙ ap (λ (o : Option PlainFile). length (bytes_or_none o))
+pub new_bytes : (c : Core) (lane : ℕ) (call : Flight) (f : File) (s2 : State) → Coherent c → (g : IsStoring c lane call f s2) → bytes_by_id s2 f.id ≡ g.stored.new
+new_bytes c lane call f s2 h g =
+    ap (λ (s : State). bytes_by_id s f.id) g.stored.state
+    ∙ ap bytes_or_none
     (found_by_id g.stored.name (changing g.stored.new) (plain c).files (plain_file c.places (contents c.blocks) f) (λ x. refl) alone (plain_by_name c lane call f s2 g))
   where
     alone : (x : PlainFile) → Contains (plain c).files x → x.id ≡ f.id → is_file g.stored.name x ≡ true
@@ -85,6 +91,9 @@ new_len c lane call f s2 h g =
         let same : k.0 ≡ f = one_of_id c.names.files h.placed.named.ids k.0 f k.1 (there c lane call f s2 g) id in
         let name : x.name ≡ f.name = ap (λ (y : PlainFile). y.name) (sym k.2) ∙ ap (λ (y : File). y.name) same in
         ap (λ (n : List ℕ). bytes_eq n g.stored.name) name ∙ found_passes (λ (y : File). bytes_eq y.name g.stored.name) c.names.files f (by_name c lane call f s2 g)
+
+pub new_len : (c : Core) (lane : ℕ) (call : Flight) (f : File) (s2 : State) → Coherent c → (g : IsStoring c lane call f s2) → length (bytes_by_id s2 f.id) ≡ length g.stored.new
+new_len c lane call f s2 h g = ap length (new_bytes c lane call f s2 h g)
 
 -- ---- blocks and places after the End
 
@@ -133,29 +142,29 @@ pub record StillHas (c : Core) (places : Places) (blocks : ℕ → Block) (claim
   pub span : (i : ℕ) → i < claim.reach.pages → span_block places claim i ≡ span_block c.places claim i
   pub same : (i b : ℕ) → i < claim.reach.pages → span_block c.places claim i ≡ Some b → blocks b ≡ c.blocks b
 
-other_has : (c : Core) (lane : ℕ) (call : Flight) (f : File) (s2 : State) → Coherent c → (g : IsStoring c lane call f s2) → (from to l : ℕ) (y : Flight) → l ≢ lane → c.calls l ≡ Some y → y.claim.file ≢ f.id → StillHas c (places_of c f.id from to) (spanned_of c call f.id from to s2) y.claim
+pub other_has : (c : Core) (lane : ℕ) (call : Flight) (f : File) (s2 : State) → Coherent c → (g : IsStoring c lane call f s2) → (from to l : ℕ) (y : Flight) → l ≢ lane → c.calls l ≡ Some y → y.claim.file ≢ f.id → StillHas c (places_of c f.id from to) (spanned_of c call f.id from to s2) y.claim
 other_has c lane call f s2 h g from to l y d e other = record {
   span = λ i w. other_place c.places f.id (fresh_of c f.id from to) from to y.claim.file (y.claim.reach.first + i) other;
   same = λ i b w at. spanned_stays c lane call f s2 h g from to l y d e i b w at (other_stays c.shape c.names c.places c.blocks h.placed.have f.id from to (to - from) y.claim.file (y.claim.reach.first + i) b at other);
 }
-
-not_both : (m : Mode) → m ≡ Shared → m ≡ Exclusive → ⊥
-not_both m e f = cc
 
 -- what two calls on the file have in common
 pub apart_of : (c : Core) (lane : ℕ) (call : Flight) (f : File) (s2 : State) → Coherent c → IsStoring c lane call f s2 → (l : ℕ) (y : Flight) → l ≢ lane → c.calls l ≡ Some y → y.claim.file ≡ f.id → Apart call.claim.reach y.claim.reach
 apart_of c lane call f s2 h g l y d e file p in_x in_y =
     not_both call.claim.reach.mode (h.locked.apart lane l call.claim y.claim p (ap claim_of g.flies) (ap claim_of e) (λ s. d (sym s)) (file_is c lane call f s2 h g ∙ sym file) in_x in_y).0 g.mode
 
+-- what the call meets in its file
+pub reach_is : (c : Core) (lane : ℕ) (call : Flight) (f : File) (s2 : State) → Coherent c → IsStoring c lane call f s2 → call.claim.reach ≡ reach_of call.claim.request.call f.len
+reach_is c lane call f s2 h g = ap (λ (k : Claim). k.reach) (h.in_flight.right lane call.claim (ap claim_of g.flies)).same ∙ ap (λ (o : Option File). reach_of call.claim.request.call (len_or_none o)) g.found
+
 pub stretches_of : (c : Core) (lane : ℕ) (call : Flight) (f : File) (s2 : State) → Coherent c → (g : IsStoring c lane call f s2) → Stretches call.claim.reach f.len (length g.stored.new)
-stretches_of c lane call f s2 h g =
-    subst (λ (r : Reach). Stretches r f.len (length g.stored.new)) (sym (ap (λ (k : Claim). k.reach) (h.in_flight.right lane call.claim (ap claim_of g.flies)).same ∙ ap (λ (o : Option File). reach_of call.claim.request.call (len_or_none o)) g.found)) g.stored.stretches
+stretches_of c lane call f s2 h g = subst (λ (r : Reach). Stretches r f.len (length g.stored.new)) (sym (reach_is c lane call f s2 h g)) g.stored.stretches
 
 pub most_of : (c : Core) (lane : ℕ) (call : Flight) (f : File) (s2 : State) → Coherent c → IsStoring c lane call f s2 → Pages f.len ≤ 65536
 most_of c lane call f s2 h g = let a = pages_fit c.shape c.names c.places h.placed.have f (there c lane call f s2 g) in let b = h.placed.drive.most_blocks in omega arith
 
 -- a call on the same file
-same_has : (c : Core) (lane : ℕ) (call : Flight) (f : File) (s2 : State) → Coherent c → (g : IsStoring c lane call f s2) → (l : ℕ) (y : Flight) → l ≢ lane → c.calls l ≡ Some y → y.claim.file ≡ f.id → (to : ℕ) → to ≡ Pages (length g.stored.new) →
+pub same_has : (c : Core) (lane : ℕ) (call : Flight) (f : File) (s2 : State) → Coherent c → (g : IsStoring c lane call f s2) → (l : ℕ) (y : Flight) → l ≢ lane → c.calls l ≡ Some y → y.claim.file ≡ f.id → (to : ℕ) → to ≡ Pages (length g.stored.new) →
     StillHas c (places_of c f.id (Pages f.len) to) (spanned_of c call f.id (Pages f.len) to s2) y.claim
 same_has c lane call f s2 h g l y d e file to is_to = record {
   span = λ i w. place i w;
