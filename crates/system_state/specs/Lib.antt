@@ -1,0 +1,9 @@
+pub mod Views
+pub mod Slots
+pub mod Cores
+pub mod Kept
+pub mod Made
+pub mod Stands
+pub mod Extends
+pub mod Errands
+pub mod Settled
