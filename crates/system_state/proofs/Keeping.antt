@@ -1,6 +1,5 @@
 -- What a state keeps, where one part of its core changes.
-use Rattle.std.proofs.Common.{◌≡◌, ℕ, Option, Some, None, refl, sym, ap, ◌∙◌, subst, ⊎_elim}
-use Rattle.std.specs.Prelude.{◌≢◌}
+use Rattle.std.proofs.Common.{◌≡◌, ℕ, Option, Some, sym, ap, ◌∙◌, ⊎_elim}
 use Rattle.index_lists.specs.Words.{put}
 use Rattle.index_lists.proofs.Counts.{same_or_not}
 use Rattle.index_lists.proofs.Puts.{put-same, put-other}

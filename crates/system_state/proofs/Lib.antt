@@ -3,3 +3,5 @@ pub mod Numbers
 pub mod Standing
 pub mod Flash
 pub mod Keeping
+pub mod Pages
+pub mod Sending

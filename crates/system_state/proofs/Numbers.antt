@@ -1,6 +1,6 @@
 -- What a die tells after one event more, by what it told before.
-use Rattle.std.proofs.Common.{◌≡◌, ℕ, zero, suc, ◌+◌, ◌-◌, ◌^◌, ◌<◌, ◌≤◌, min, Bool, true, false, List, [], ◌∷◌, ◌++◌, length, Option, Some, None, refl, sym, ap, ◌∙◌, subst, inl, inr, ⊎_elim, arith}
-use Rattle.std.specs.Prelude.{◌⊎◌, ◌≢◌, ◌==◌, ◌||◌, not, is_some, option_map, IfSome, if◌then◌else◌, slice_get}
+use Rattle.std.proofs.Common.{◌≡◌, ℕ, suc, ◌+◌, ◌-◌, ◌^◌, ◌<◌, ◌≤◌, min, Bool, true, false, List, [], ◌∷◌, ◌++◌, Option, Some, None, refl, sym, ap, ◌∙◌, subst, ⊎_elim, arith}
+use Rattle.std.specs.Prelude.{◌⊎◌, ◌==◌, ◌||◌, not, is_some, option_map, IfSome, slice_get}
 use Rattle.std.specs.List.{All}
 use Rattle.std.proofs.lemmas.Bool.{cases_lt}
 use Rattle.std.proofs.lemmas.Bool.Decides.{nat_tests}
@@ -10,7 +10,6 @@ use Rattle.edge_io.specs.Memory.{is_listed}
 use Rattle.flash_die.specs.Dies.{PlanView, DieView, IsPlan, IsDie, read_fails, after_read, write_fails, after_write}
 use Rattle.core_state.specs.declared.event.Event.{Event}
 use Rattle.core_state.specs.History.{DiePlan, read_of, write_of, IsListed, IsPlannedFrom}
-use Rattle.system_state.specs.Views.{no_die}
 use Rattle.system_state.specs.Slots.{die_in, die_at}
 use Rattle.system_state.specs.Stands.{count_such, has_failed, Tally, tally, plan_after, DieStands, failing, IsByPlan}
 use Rattle.system_state.specs.Extends.{CameHome, Tells, GoesOn}
@@ -67,8 +66,8 @@ planned-append d plan (x ∷ es) e r w k p q =
       k.0,
       k.1,
       planned-append d plan es e (r + m) (w + n) k.2
-      (subst (λ (z : ℕ). IsListed (read_of d e) z plan.reads) a p)
-      (subst (λ (z : ℕ). IsListed (write_of d e) z plan.writes) b q),
+          (subst (λ (z : ℕ). IsListed (read_of d e) z plan.reads) a p)
+          (subst (λ (z : ℕ). IsListed (write_of d e) z plan.writes) b q),
     )
 
 -- ---- one event more

@@ -1,6 +1,6 @@
 -- One event more: from a state that stands for a history to one that stands for the longer one.
-use Rattle.std.proofs.Common.{◌≡◌, ℕ, ◌+◌, ◌%◌, ◌^◌, ◌<◌, ◌≤◌, List, [], ◌∷◌, ◌++◌, length, refl, sym, ap, ◌∙◌, subst, arith, length-append, append_assoc, append-nil}
-use Rattle.std.specs.Prelude.{map, false, Some, None}
+use Rattle.std.proofs.Common.{◌≡◌, ℕ, ◌+◌, ◌%◌, ◌^◌, ◌<◌, List, [], ◌∷◌, ◌++◌, length, refl, sym, ap, ◌∙◌, subst, arith, length-append, append_assoc, append-nil}
+use Rattle.std.specs.Prelude.{None}
 use mathlib.Core.List.{map-append}
 use Rattle.flash_die.specs.Dies.{DieView, IsDie}
 use Rattle.turn_cell.specs.declared.book.Entry.{Entry}

@@ -2,9 +2,7 @@
 --
 -- The code relies on it, and every event keeps it; no promise to a caller speaks of it.
 use Rattle.std.specs.Prelude.{◌≡◌, ℕ, ◌<◌, ◌≤◌, Bool, true, false, min, List, [], length, get_or, slice_get, slice_index_or, vec_capacity, if◌then◌else◌, Option, Some, None, is_some}
-use Rattle.std.specs.List.{find}
 use Rattle.page_base.specs.Drive.{IsDrive, meta_pages, total_pages, die_share}
-use Rattle.dispatcher.specs.declared.side.Side.{Side}
 use Rattle.dispatcher.specs.declared.side.Side.TheVariants.{Host, Drive}
 use Rattle.name_table.specs.declared.files.FileRec.{FileRec}
 use Rattle.name_table.specs.Files as name_table

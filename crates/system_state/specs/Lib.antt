@@ -6,4 +6,5 @@ pub mod Made
 pub mod Stands
 pub mod Extends
 pub mod Errands
+pub mod Noted
 pub mod Settled

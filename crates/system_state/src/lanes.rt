@@ -63,9 +63,21 @@ pub enum Frame {
 
 /// How a function ended, with the fuel that it used, and with its output where it was done. Only clauses read it.
 pub enum Ran {
-    Done { r0: u64, output: LinkedList<u8>, used: u64 },
-    TrapAccess { address: u64, size: u32, slot: u32, used: u64 },
-    TrapDepth { slot: u32, used: u64 },
+    Done {
+        r0: u64,
+        output: LinkedList<u8>,
+        used: u64,
+    },
+    TrapAccess {
+        address: u64,
+        size: u32,
+        slot: u32,
+        used: u64,
+    },
+    TrapDepth {
+        slot: u32,
+        used: u64,
+    },
     Spent,
 }
 
@@ -96,4 +108,3 @@ pub trait CallJob: Drop {
     /// The job is that of a call in flight: it has its request, its gathered pages, and its result where there is one.
     ghost suits: { Self → Flight → Type 0 };
 }
-
