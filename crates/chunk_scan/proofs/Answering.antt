@@ -1,5 +1,5 @@
 -- What the plain machine answers to `readl` of a piece.
-use Rattle.std.proofs.Common.{◌≡◌, ℕ, ◌*◌, ◌≤◌, ◌^◌, Bool, false, List, [], ◌∷◌, length, map, replicate, Option, Some, None, Result, Ok, Err, ap, ◌∙◌, sym, refl, arith}
+use Rattle.std.proofs.Common.{◌≡◌, ℕ, ◌*◌, ◌≤◌, ◌^◌, List, [], ◌∷◌, length, map, replicate, Some, None, Result, Ok, Err, ap, ◌∙◌, sym, refl, arith}
 use Rattle.std.proofs.lemmas.Grind.{common_steps}
 use Rattle.std.specs.List.{range_with_len}
 use Rattle.page_base.specs.Bytes.{Cut}
@@ -10,7 +10,7 @@ use Rattle.plain_files.specs.declared.calls.Reply.{Reply}
 use Rattle.plain_files.specs.declared.calls.PlainFile.{PlainFile}
 use Rattle.plain_files.specs.Steps.{◌>>=◌}
 use Rattle.plain_files.specs.Plain.{State, Function, Answered, RunEnd, file_of, function_of, bytes_in, code_in, run_of, effect, or_refusal, reply_alone, ended, first_bytes, early, answer, answer_after}
-use Rattle.chunk_scan.specs.Pieces.{piece_count, pieces}
+use Rattle.chunk_scan.specs.Pieces.{piece_count}
 use Rattle.chunk_scan.specs.Scan.{piece_reply, reply_to_end, scan}
 
 ended_so : (s : State) (cap : ℕ) (ran : Result RunEnd Reply) → (or_refusal s (ran >>= (λ end. Ok (reply_alone s (first_bytes cap end))))).reply ≡ reply_to_end cap ran

@@ -1,10 +1,10 @@
-use Rattle.std.proofs.Common.{◌≡◌, ◌<◌, ◌≤◌, ◌^◌, ℕ, List, length, map, max, ap, ◌∙◌, arith}
-use Rattle.std.specs.Prelude.{slice_index_or, IfOk}
-use Rattle.rayon.specs.Lists.{chunks_of, chunks_size, chunks_slice, min_len_base, map_base}
+use Rattle.std.proofs.Common.{◌≡◌, ◌≤◌, ◌^◌, ℕ, List, length, map, max, ap, ◌∙◌, arith}
+use Rattle.std.specs.Prelude.{IfOk}
+use Rattle.rayon.specs.Lists.{chunks_of}
 use Rattle.rayon.proofs.ToStd.{chunks_of-All}
 use Rattle.plain_files.specs.declared.calls.Reply.{Reply}
 use Rattle.chunk_scan.specs.Replies.{as_reply}
-use Rattle.chunk_scan.specs.Scan.{piece_reply, scan}
+use Rattle.chunk_scan.specs.Scan.{piece_reply}
 use Rattle.chunk_scan.specs.Pieces.{pieces}
 use Rattle.chunk_scan.proofs.Cuts.{chunks_are_pieces}
 use Rattle.chunk_scan.proofs.Replies.{collected}
