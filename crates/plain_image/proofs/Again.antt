@@ -1,22 +1,19 @@
 -- The image that is made of a machine is whole, and stands for the machine's files.
-use Rattle.std.proofs.Common.{◌≡◌, ℕ, zero, suc, ◌+◌, ◌-◌, ◌*◌, ◌<◌, ◌≤◌, List, [], ◌∷◌, ◌++◌, length, take, drop, get_or, replicate, map, Bool, true, false, None, Result, Ok, Err, refl, sym, subst, ap, ◌∙◌, arith, append_assoc, length-append}
-use Rattle.std.specs.Prelude.{⊤}
+use Rattle.std.proofs.Common.{◌≡◌, ℕ, ◌-◌, ◌*◌, ◌≤◌, List, [], ◌∷◌, ◌++◌, length, take, drop, get_or, replicate, map, true, false, Ok, refl, sym, subst, ap, ◌∙◌, arith, length-append}
 use Rattle.std.specs.List.{range_with_len, flat_map, AllByRecursion}
-use Rattle.std.proofs.lemmas.List.{append-nil, drop_at, length-replicate, length-map}
+use Rattle.std.proofs.lemmas.List.{append-nil, length-replicate, length-map}
 use Rattle.page_base.specs.Drive.{Drive, IsDrive, meta_pages, total_pages}
-use Rattle.page_base.specs.Bytes.{Pages}
 use Rattle.name_table.specs.declared.files.FileRec.{FileRec}
-use Rattle.name_table.specs.Files.{Table, IsTable}
+use Rattle.name_table.specs.Files.{IsTable}
 use Rattle.extent_map.specs.declared.places.Place.{Place}
-use Rattle.extent_map.specs.Places.{Places, IsSound, runs}
-use Rattle.image_format.specs.declared.faults.ImageFault.{ImageFault}
+use Rattle.extent_map.specs.Places.{IsSound, runs}
 use Rattle.image_format.specs.declared.meta.Meta.{Meta}
 use Rattle.image_format.specs.Records.{Stored}
-use Rattle.image_format.specs.Tails.{Share, shares}
+use Rattle.image_format.specs.Tails.{shares}
 use Rattle.image_format.specs.Image.{File, Mounted, mounts_to}
 use Rattle.image_format.specs.Encoding.{fill, record_bytes, header_part, record_part, entry_part, bits_part, meta_bytes, image_bytes}
 use Rattle.image_format.specs.Tables.{stored_of, stored_files, blocks_in, placed_of, pages_of, pages_from, IsOneSize}
-use Rattle.image_format.specs.Whole.{goes_on, file_with, stands_for, IsWhole, IsValid}
+use Rattle.image_format.specs.Whole.{goes_on, stands_for, IsWhole, IsValid}
 use Rattle.image_format.proofs.Areas.{length_range, length_fill}
 use Rattle.image_format.proofs.Imaged.{meta_length}
 use Rattle.image_format.proofs.Remounting.{remounted}

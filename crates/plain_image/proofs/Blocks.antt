@@ -1,22 +1,20 @@
 -- The data blocks of the files, one file behind the other: their places, and what they hold.
 use Rattle.std.proofs.Common.{◌≡◌, ℕ, zero, suc, ◌+◌, ◌-◌, ◌*◌, ◌/◌, ◌%◌, ◌<◌, ◌≤◌, List, [], ◌∷◌, ◌++◌, length, take, drop, get_or, replicate, map, Bool, true, false, eqb, cond, ◌||◌, refl, sym, subst, ap, ◌∙◌, arith, append_assoc, length-append, take-append-drop, inl, inr}
 use Rattle.std.specs.Prelude.{not, ◌&&◌, slice_index}
-use Rattle.std.specs.List.{list_any, list_all, range_with_len, flat_map, AllByRecursion}
-use Rattle.std.proofs.lemmas.Bool.{cond-true, cond-false, cases_lt}
+use Rattle.std.specs.List.{list_any, range_with_len, flat_map, AllByRecursion}
+use Rattle.std.proofs.lemmas.Bool.{cond-true, cases_lt}
 use Rattle.std.proofs.lemmas.Bool.Decides.{nat_tests}
-use Rattle.std.proofs.lemmas.List.{map-append, take_at, drop_at, take_all, drop-drop, take-replicate, length-map, length-replicate, get_or-replicate, get_or_past, take-append-le, drop-take}
+use Rattle.std.proofs.lemmas.List.{map-append, take_at, drop_at, take_all, drop-drop, length-map, length-replicate, drop-take}
 use Rattle.std.proofs.lemmas.List.FromFn.{get_or-map-range_with_len}
-use Rattle.std.proofs.Math.Seq.{get_or-append_right}
 use Rattle.std.proofs.lemmas.List.Sums.{sum_by-cons}
 use Rattle.page_base.specs.Bytes.{Pages}
 use Rattle.extent_map.specs.declared.places.Place.{Place}
 use Rattle.extent_map.specs.Places.{is_used, pages_on}
-use Rattle.image_format.specs.Numbers.{part, is_zero, are_zero}
+use Rattle.image_format.specs.Numbers.{part, are_zero}
 use Rattle.image_format.specs.Records.{Stored}
 use Rattle.image_format.specs.Tails.{Share, shares, data_page}
 use Rattle.image_format.specs.Image.{File}
 use Rattle.image_format.specs.Tables.{placed_of, pages_of, pages_from}
-use Rattle.image_format.specs.Encoding.{fill}
 use Rattle.image_format.proofs.Areas.{part_more, part_length, length_range, length_fill}
 use Rattle.image_format.proofs.Covers.{blocks_of_pages}
 use Rattle.plain_files.specs.declared.calls.PlainFile.{PlainFile}

@@ -1,19 +1,18 @@
 -- The image that is made of a machine is loaded as the same drive.
-use Rattle.std.proofs.Common.{◌≡◌, ℕ, zero, suc, ◌+◌, ◌-◌, ◌*◌, ◌<◌, ◌≤◌, ◌^◌, List, [], ◌∷◌, ◌++◌, length, take, replicate, map, Bool, true, false, None, Some, Result, Ok, refl, sym, ap, ◌∙◌, arith, append_assoc, length-append}
+use Rattle.std.proofs.Common.{◌≡◌, ℕ, zero, suc, ◌+◌, ◌-◌, List, [], ◌∷◌, ◌++◌, length, take, replicate, map, false, None, Some, Ok, refl, sym, ap, ◌∙◌, arith, append_assoc, length-append}
 use Rattle.std.specs.Prelude.{not, nat_lt}
 use Rattle.std.specs.List.{position_or_len, flat_map}
 use Rattle.std.proofs.lemmas.Bool.{cond-false}
 use Rattle.std.proofs.lemmas.Bool.Decides.{nat_tests}
 use Rattle.std.proofs.lemmas.List.{take_at, length-replicate}
-use Rattle.page_base.specs.Drive.{Drive, IsDrive, meta_pages}
+use Rattle.page_base.specs.Drive.{Drive, IsDrive}
 use Rattle.name_table.specs.Files.{IsTable}
 use Rattle.extent_map.specs.Places.{IsSound, runs}
-use Rattle.image_format.specs.declared.faults.ImageFault.{ImageFault}
 use Rattle.image_format.specs.declared.header.Header.{Header}
 use Rattle.image_format.specs.declared.meta.Meta.{Meta}
 use Rattle.image_format.specs.Numbers.{is_zero, first_set}
 use Rattle.image_format.specs.Header.{header, image_length}
-use Rattle.image_format.specs.Image.{File, Image, Mounted, mounted, read_image, mounts_to}
+use Rattle.image_format.specs.Image.{Image, Mounted, mounted, read_image, mounts_to}
 use Rattle.image_format.specs.Encoding.{header_bytes, header_part, record_part, entry_part, bits_part, meta_bytes, image_bytes}
 use Rattle.image_format.specs.Whole.{IsWhole, IsValid}
 use Rattle.image_format.proofs.Areas.{length_flat}
@@ -24,10 +23,10 @@ use Rattle.plain_files.specs.declared.calls.PlainFile.{PlainFile}
 use Rattle.plain_files.specs.Plain.{State}
 use Rattle.plain_image.specs.declared.drive.PlainDrive.{PlainDrive}
 use Rattle.plain_image.specs.Fits.{Fits}
-use Rattle.plain_image.specs.Drives.{plain_file, machine_on, drive_in, drive_of, mounted_file, mounted_as, without_functions}
+use Rattle.plain_image.specs.Drives.{plain_file, machine_on, drive_of, mounted_file, mounted_as, without_functions}
 use Rattle.plain_image.specs.Image.{image_with}
 use Rattle.plain_image.specs.Tables.{HasTables}
-use Rattle.plain_image.proofs.Readings.{went, same_ok, read_steps, mounts_read}
+use Rattle.plain_image.proofs.Readings.{same_ok, read_steps, mounts_read}
 use Rattle.plain_image.proofs.Again.{body_of, whole, valid, mounts, image_is}
 
 -- ---- page 0

@@ -1,8 +1,8 @@
 -- The machine without files fits on every drive, and every answer leaves a state that fits.
-use Rattle.std.proofs.Common.{◌≡◌, ◌⊎◌, inl, inr, ℕ, ◌+◌, ◌-◌, ◌<◌, ◌≤◌, ◌^◌, List, [], ◌∷◌, ◌++◌, length, take, drop, replicate, eqb, Bool, true, false, not, cond, Option, Some, None, Result, Ok, Err, bytes_eq, refl, sym, subst, ap, ◌∙◌, arith, length-append}
+use Rattle.std.proofs.Common.{◌≡◌, inl, inr, ℕ, ◌+◌, ◌-◌, ◌<◌, ◌≤◌, ◌^◌, List, [], ◌∷◌, ◌++◌, length, take, drop, replicate, eqb, Bool, true, false, not, cond, Option, Some, None, Result, Ok, Err, bytes_eq, refl, sym, subst, ap, ◌∙◌, arith, length-append}
 use Rattle.std.specs.Prelude.{is_some, nat_le, nat_lt, unwrap_or, IsTrue}
-use Rattle.std.specs.List.{find, sum_by, AllByRecursion}
-use Rattle.std.proofs.lemmas.Bool.{cond-true, cond-false}
+use Rattle.std.specs.List.{AllByRecursion}
+use Rattle.std.proofs.lemmas.Bool.{cond-false}
 use Rattle.std.proofs.lemmas.Bool.Decides.{nat_tests, same_from_decides, Decides-like}
 use Rattle.std.proofs.lemmas.List.{length-replicate, length-take, length-drop}
 use Rattle.std.proofs.lemmas.List.Sums.{sum_by-cons, sum_by_push}
@@ -22,8 +22,7 @@ use Rattle.plain_files.specs.declared.calls.Reply.TheVariants.{Id, Val, At, Done
 use Rattle.plain_files.specs.Steps.{◌>>=◌, refuse}
 use Rattle.plain_files.specs.Lists.{with_changed, without}
 use Rattle.plain_files.specs.History.{Entry, Legal}
-use Rattle.plain_files.specs.Plain.{State, Answered, is_file, file_of, function_of, file_in, bytes_in, code_in, pages_of, is_too_long, lacks_file, lacks_function, is_append_only, end_of, is_full, with_file, with_length, is_overfull, with_content, stored, spelled_code, unless_refused, done_with_functions, ended, first_bytes, early, effect, or_refusal, reply_alone, answer_after, answer}
-use Rattle.plain_run.specs.Order.{IsInOrder}
+use Rattle.plain_files.specs.Plain.{State, Answered, is_file, file_of, function_of, bytes_in, code_in, pages_of, is_too_long, lacks_file, lacks_function, is_append_only, end_of, is_full, with_file, with_length, is_overfull, with_content, stored, spelled_code, unless_refused, done_with_functions, ended, first_bytes, early, effect, or_refusal, reply_alone, answer_after, answer}
 use Rattle.plain_run.proofs.Ordered.{answer_keeps}
 use Rattle.plain_run.proofs.Stores.{length_exact}
 use Rattle.plain_image.specs.Fits.{IsFile, HaveOwnNames, Fits}
@@ -164,18 +163,18 @@ put_short file bytes off short within =
     elim (eqb (length bytes) 0) as (λ (b : Bool). length (cond b file (take off file ++ replicate (off - length file) 0 ++ bytes ++ drop (off + length bytes) file)) ≤ 2 ^ 28) [
       | true ↦ short
       | false ↦ omega (
-          arith,
-          length-append (take off file) (replicate (off - length file) 0 ++ bytes ++ drop (off + length bytes) file),
-          length-append (take off file ++ replicate (off - length file) 0) (bytes ++ drop (off + length bytes) file),
-          length-append (replicate {A = ℕ} (off - length file) 0) (bytes ++ drop (off + length bytes) file),
-          length-append (take off file ++ replicate (off - length file) 0 ++ bytes) (drop (off + length bytes) file),
-          length-append (take off file ++ replicate (off - length file) 0) bytes,
-          length-append (take off file) (replicate (off - length file) 0),
-          length-append bytes (drop (off + length bytes) file),
-          length-replicate {A = ℕ} (off - length file) 0,
-          length-take off file,
-          length-drop (off + length bytes) file,
-        )
+        arith,
+        length-append (take off file) (replicate (off - length file) 0 ++ bytes ++ drop (off + length bytes) file),
+        length-append (take off file ++ replicate (off - length file) 0) (bytes ++ drop (off + length bytes) file),
+        length-append (replicate {A = ℕ} (off - length file) 0) (bytes ++ drop (off + length bytes) file),
+        length-append (take off file ++ replicate (off - length file) 0 ++ bytes) (drop (off + length bytes) file),
+        length-append (take off file ++ replicate (off - length file) 0) bytes,
+        length-append (take off file) (replicate (off - length file) 0),
+        length-append bytes (drop (off + length bytes) file),
+        length-replicate {A = ℕ} (off - length file) 0,
+        length-take off file,
+        length-drop (off + length bytes) file,
+      )
     ]
 
 -- ---- steps that may be refused
@@ -198,14 +197,14 @@ room_left s is = (grind (arith, nat_tests), grind (arith, nat_tests))
 create_keeps : (blocks : ℕ) (s : State) (name : List ℕ) → Kept blocks s → Kept blocks (or_refusal s (effect s (Create name))).state
 create_keeps blocks s name kept =
     refused_keeps blocks s (not (is_name name)) BadName _ kept (λ good.
-      refused_keeps blocks s (is_some (file_of name s.files)) Exists _ kept (λ new.
-        refused_keeps blocks s (is_full s) Full (Ok (record { reply = Id s.next; state = with_file s name })) kept (λ full.
-          let file : PlainFile = record { id = s.next; name = name; bytes = []; sealed = false } in
-          let left = room_left s full in
-          let more : length (s.files ++ file ∷ []) ≡ length s.files + 1 = length-append s.files (file ∷ []) in
-          let same : pages_of (s.files ++ file ∷ []) ≡ pages_of s.files + 0 = sum_by_push pages s.files file in
-          (omega (arith, left.1), omega (arith, left.0, more), each_push s.files file kept.2 (good_name (is_name name) good, omega arith), names_push s.files file (none_named (file_of name s.files) new) kept.3, omega (arith, same, kept.4), kept.5)
-        )))
+    refused_keeps blocks s (is_some (file_of name s.files)) Exists _ kept (λ new.
+    refused_keeps blocks s (is_full s) Full (Ok (record { reply = Id s.next; state = with_file s name })) kept (λ full.
+    let file : PlainFile = record { id = s.next; name = name; bytes = []; sealed = false } in
+    let left = room_left s full in
+    let more : length (s.files ++ file ∷ []) ≡ length s.files + 1 = length-append s.files (file ∷ []) in
+    let same : pages_of (s.files ++ file ∷ []) ≡ pages_of s.files + 0 = sum_by_push pages s.files file in
+    (omega (arith, left.1), omega (arith, left.0, more), each_push s.files file kept.2 (good_name (is_name name) good, omega arith), names_push s.files file (none_named (file_of name s.files) new) kept.3, omega (arith, same, kept.4), kept.5)
+    )))
 
 remove_keeps : (blocks : ℕ) (s : State) (name : List ℕ) → Kept blocks s → Kept blocks (or_refusal s (effect s (Remove name))).state
 remove_keeps blocks s name kept =
@@ -224,9 +223,9 @@ not_over s is = grind (arith, nat_tests)
 stored_keeps : (blocks : ℕ) (s : State) (name bytes : List ℕ) (reply : Reply) → length bytes ≤ 2 ^ 28 → Kept blocks s → Kept blocks (or_refusal s (stored s name bytes reply)).state
 stored_keeps blocks s name bytes reply short kept =
     refused_keeps blocks s (is_overfull (with_content s name bytes)) NoSpace (Ok (record { reply = reply; state = with_content s name bytes })) kept (λ room.
-      let test = is_file name in
-      let change : PlainFile → PlainFile = λ file. record file { bytes = bytes } in
-      (kept.0, omega (arith, length_changed test change s.files, kept.1), each_changed test change s.files (λ f is. (is.0, short)) kept.2, names_changed test change s.files (λ f. refl) kept.3, not_over (with_content s name bytes) room, kept.5)
+    let test = is_file name in
+    let change : PlainFile → PlainFile = λ file. record file { bytes = bytes } in
+    (kept.0, omega (arith, length_changed test change s.files, kept.1), each_changed test change s.files (λ f is. (is.0, short)) kept.2, names_changed test change s.files (λ f. refl) kept.3, not_over (with_content s name bytes) room, kept.5)
     )
 
 -- ---- functions
@@ -241,7 +240,7 @@ kept_code_keeps : (blocks : ℕ) (s : State) (name : List ℕ) (code : List Insn
 unfolding kept_code
 kept_code_keeps blocks s name code kept =
     refused_keeps blocks s (is_some (function_of name s.functions)) Exists _ kept (λ new.
-      refused_keeps blocks s (nat_le 64 (length s.functions)) FnFull (Ok (done_with_functions s (s.functions ++ record { name = name; code = code } ∷ []))) kept (λ room. kept))
+    refused_keeps blocks s (nat_le 64 (length s.functions)) FnFull (Ok (done_with_functions s (s.functions ++ record { name = name; code = code } ∷ []))) kept (λ room. kept))
 
 read_code_keeps : (blocks : ℕ) (s : State) (name : List ℕ) (read : Result (List Insn) InsnFault) → Kept blocks s → Kept blocks (or_refusal s ((spelled_code read >>= λ code. unless_refused code (refusal code)) >>= kept_code s name)).state
 read_code_keeps blocks s name (Err fault) kept = kept

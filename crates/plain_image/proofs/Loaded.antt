@@ -1,21 +1,19 @@
 -- What meta data and pages that were mounted stand for is what the image says.
-use Rattle.std.proofs.Common.{◌≡◌, ℕ, zero, suc, ◌+◌, ◌-◌, ◌*◌, ◌<◌, ◌≤◌, List, [], ◌∷◌, ◌++◌, length, take, drop, get_or, replicate, map, Bool, true, false, cond, eqb, None, Some, Result, Ok, Err, refl, sym, subst, ap, ◌∙◌, arith, length-append}
-use Rattle.std.specs.Prelude.{slice_get}
+use Rattle.std.proofs.Common.{◌≡◌, ℕ, suc, ◌+◌, ◌<◌, ◌≤◌, List, [], ◌∷◌, ◌++◌, length, take, drop, get_or, replicate, map, Bool, true, false, cond, eqb, Result, Ok, Err, refl, sym, subst, ap, ◌∙◌, arith, length-append}
 use Rattle.std.specs.List.{range_with_len, flat_map, AllByRecursion}
-use Rattle.std.proofs.lemmas.Bool.{cond-true, cond-false}
 use Rattle.std.proofs.lemmas.List.{drop_at, length-map, length-take}
 use Rattle.std.proofs.lemmas.List.FromFn.{get_or-map-range_with_len}
 use Rattle.page_base.specs.Bytes.{Pages}
-use Rattle.page_base.specs.Drive.{Drive, meta_pages}
+use Rattle.page_base.specs.Drive.{meta_pages}
 use Rattle.extent_map.specs.declared.places.Place.{Place}
 use Rattle.extent_map.specs.Places.{IsSound, pages_on}
 use Rattle.image_format.specs.declared.faults.ImageFault.{ImageFault}
 use Rattle.image_format.specs.declared.faults.MountErr.{MountErr}
 use Rattle.image_format.specs.declared.meta.Meta.{Meta}
-use Rattle.image_format.specs.Faults.{◌>>=◌, Fails}
+use Rattle.image_format.specs.Faults.{Fails}
 use Rattle.image_format.specs.Records.{Stored}
 use Rattle.image_format.specs.Bitmap.{is_set, written_in}
-use Rattle.image_format.specs.Tails.{Share, shares, data_page}
+use Rattle.image_format.specs.Tails.{shares, data_page}
 use Rattle.image_format.specs.Image.{File, Image, Mounted, mounted, read_image}
 use Rattle.image_format.specs.Encoding.{meta_page}
 use Rattle.image_format.specs.Tables.{stored_files, blocks_in, placed_of, pages_of, pages_from, own_pages, IsMounted, Mounts}

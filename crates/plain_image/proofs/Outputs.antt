@@ -2,12 +2,11 @@
 use Rattle.std.proofs.Common.{◌≡◌, ℕ, zero, suc, ◌+◌, ◌-◌, List, [], ◌∷◌, length, Bool, true, false, cond, Option, Some, None, refl, subst}
 use Rattle.std.specs.Prelude.{◌%◌, ◌^◌, nat_lt, slice_index, slice_set}
 use Rattle.sbpf_insn.specs.declared.insn.Reg.{Reg}
-use Rattle.sbpf_insn.specs.declared.insn.AtomicOp.{AtomicOp}
 use Rattle.sbpf_insn.specs.declared.insn.Size.{Size}
 use Rattle.sbpf_insn.specs.declared.insn.Insn.{Insn}
 use Rattle.sbpf_insn.specs.declared.insn.Insn.TheVariants as insn
 use Rattle.sbpf_insn.specs.Cells.{at_slot}
-use Rattle.sbpf_insn.specs.Machine.{Regions, Frame, State, Area, Context, Input, Output, Param, Stack, base, area_bytes, size_len, put_number, with_area, put_in, writable, load, store, load_writable, Next, Goes, Done, Access, Depth, at, address, operand, top, after_slot, loaded, stored, load_step, store_step, call, target, leave, fetched_into, with_fetched, atomic_size, exchanged, atomic_step, act, step_at, step, Outcome, Ended, AccessTrap, DepthTrap, Spent, after, run_from, start, run}
+use Rattle.sbpf_insn.specs.Machine.{Regions, Frame, State, Area, Context, Input, Output, Param, Stack, base, area_bytes, size_len, put_number, with_area, put_in, writable, load, store, load_writable, Next, Goes, Done, Access, Depth, address, top, after_slot, loaded, stored, call, target, leave, fetched_into, with_fetched, atomic_size, exchanged, act, step_at, step, Outcome, Ended, AccessTrap, DepthTrap, Spent, after, run_from, start, run}
 use Rattle.sbpf_exec.proofs.Windows.{length-put_number}
 
 -- where a step goes on, the output has so many bytes

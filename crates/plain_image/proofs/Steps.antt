@@ -1,6 +1,6 @@
 -- One file more: what the loops over the files keep.
-use Rattle.std.proofs.Common.{◌≡◌, ℕ, zero, suc, ◌+◌, ◌-◌, ◌*◌, ◌<◌, ◌≤◌, List, [], ◌∷◌, ◌++◌, length, take, drop, get_or, set, replicate, map, Bool, true, false, cond, eqb, ◌||◌, Option, None, Some, refl, sym, subst, ap, ◌∙◌, arith, append_assoc, length-append}
-use Rattle.std.specs.Prelude.{slice_get, is_ok}
+use Rattle.std.proofs.Common.{◌≡◌, ℕ, zero, suc, ◌+◌, ◌-◌, ◌*◌, ◌<◌, ◌≤◌, List, [], ◌∷◌, ◌++◌, length, take, drop, get_or, set, replicate, map, Bool, true, false, cond, eqb, ◌||◌, None, Some, refl, sym, subst, ap, ◌∙◌, arith, append_assoc, length-append}
+use Rattle.std.specs.Prelude.{slice_get}
 use Rattle.std.specs.List.{range_with_len, find, flat_map, AllByRecursion}
 use Rattle.std.proofs.lemmas.Bool.{cond-true, cond-false}
 use Rattle.std.proofs.lemmas.Bool.Decides.{nat_tests}
@@ -9,7 +9,6 @@ use Rattle.page_base.specs.Bytes.{Pages}
 use Rattle.name_table.specs.declared.files.FileRec.{FileRec}
 use Rattle.name_table.specs.Files.{Table, free_slot}
 use Rattle.extent_map.specs.declared.places.Place.{Place}
-use Rattle.extent_map.specs.declared.places.Extent.{Extent}
 use Rattle.extent_map.specs.Places.{Places, count_of, put_in, pages_on, is_used, first_used, with_blocks}
 use Rattle.image_format.specs.declared.meta.Meta.{Meta}
 use Rattle.image_format.specs.Records.{Stored}
@@ -24,10 +23,10 @@ use Rattle.image_format.proofs.Listings as listings
 use Rattle.plain_files.specs.declared.calls.PlainFile.{PlainFile}
 use Rattle.plain_files.specs.Plain.{State, Function}
 use Rattle.plain_image.specs.Drives.{plain_file}
-use Rattle.plain_image.specs.Image.{stored_file, file_pages, data_of}
+use Rattle.plain_image.specs.Image.{stored_file, file_pages}
 use Rattle.plain_image.specs.Tables.{files_left}
 use Rattle.plain_image.proofs.Listing.{take_next, stored_push}
-use Rattle.plain_image.proofs.Blocks.{range_append, pages_hold}
+use Rattle.plain_image.proofs.Blocks.{range_append}
 
 -- ---- loading
 
@@ -173,7 +172,7 @@ file_placed files i f used next old new rise here used-is next-is places is =
     let all : range_with_len 0 used ++ more ≡ range_with_len 0 next = ap (λ k. range_with_len 0 used ++ range_with_len k n) (sym from) ∙ range_append 0 used n ∙ ap (range_with_len 0) (sym next-is) in (
       ap (λ (s : Places). s.blocks) is,
       ap (λ (s : Places). s.placed) is ∙ ap (λ ps. put_in f.id (pages_on f.id (count_of f.id ps) more) ps) places
-      ∙ ap (λ k. put_in f.id (pages_on f.id k more) so-far) step.count ∙ step.put ∙ sym step.placed ∙ ap (placed_of files) all,
+          ∙ ap (λ k. put_in f.id (pages_on f.id k more) so-far) step.count ∙ step.put ∙ sym step.placed ∙ ap (placed_of files) all,
     )
 
 pub places_are : (s : Places) (blocks : ℕ) (placed : List Place) → s.blocks ≡ blocks → s.placed ≡ placed → s ≡ record { blocks = blocks; placed = placed }

@@ -9,10 +9,26 @@ const META: usize = 131;
 // An image of version 1 of 4 blocks with a file of 4,097 bytes on the blocks 2 and 0, of which the last isn't written.
 fn first_version(alloc: Global) -> Result<Vec<u8>, AllocError> {
     let mut image = vec![in alloc; 0u8; 4096 * 23]?;
-    put(&mut image, 0, b"LIO1\x01\0\0\0\x04\0\0\0\x03\0\0\0\x09\0\0\0");
-    put(&mut image, 4096, b"\x02\0\0\0\x01\x10\0\0\x01\0\0\0\0\0\0\0a");
-    put(&mut image, 4096 * 17, b"\x02\0\0\0\0\0\0\0\x02\0\0\0\x01\0\0\0");
-    put(&mut image, 4096 * 17 + 16, b"\x02\0\0\0\x01\0\0\0\0\0\0\0\x01\0\0\0");
+    put(
+        &mut image,
+        0,
+        b"LIO1\x01\0\0\0\x04\0\0\0\x03\0\0\0\x09\0\0\0",
+    );
+    put(
+        &mut image,
+        4096,
+        b"\x02\0\0\0\x01\x10\0\0\x01\0\0\0\0\0\0\0a",
+    );
+    put(
+        &mut image,
+        4096 * 17,
+        b"\x02\0\0\0\0\0\0\0\x02\0\0\0\x01\0\0\0",
+    );
+    put(
+        &mut image,
+        4096 * 17 + 16,
+        b"\x02\0\0\0\x01\0\0\0\0\0\0\0\x01\0\0\0",
+    );
     put(&mut image, 4096 * 18, &[4]);
     put(&mut image, 4096 * (19 + 2), b"first");
     put(&mut image, 4096 * 19, b"old");
@@ -34,7 +50,14 @@ fn first_version_is_loaded_and_stored_as_the_second(rt: HostRuntime) -> Result<(
     let Ok(drive) = load_image(alloc, &image) else {
         return Ok(assert!(rt; false));
     };
-    assert_eq!(rt; (drive.geometry.blocks(), drive.geometry.dies(), drive.plain.next_id()), (4, 3, 9));
+    assert_eq!(rt;
+        (
+            drive.geometry.blocks(),
+            drive.geometry.dies(),
+            drive.plain.next_id()
+        ),
+        (4, 3, 9)
+    );
     let file = drive.plain.file_at(0).ok_or("a file")?;
     let bytes = file.bytes.as_slice();
     assert_eq!(rt; (file.id, file.sealed, bytes.len()), (2, false, 4097));
@@ -62,7 +85,10 @@ fn sealed_mark_is_loaded_and_stored(rt: HostRuntime) -> Result<(), Fail> {
         return Ok(assert!(rt; false));
     };
     let file = sealed.plain.file_at(0).ok_or("a file")?;
-    assert_eq!(rt; (file.id, file.sealed, file.bytes.as_slice().len()), (2, true, 4097));
+    assert_eq!(rt;
+        (file.id, file.sealed, file.bytes.as_slice().len()),
+        (2, true, 4097)
+    );
     let again = store_image(alloc, sealed.geometry, &sealed.plain)?;
     assert!(rt; again.as_slice() == stored.as_slice());
     Ok(())

@@ -1,5 +1,4 @@
-use Rattle.std.proofs.Common.{◌≡◌, ◌+◌, ◌*◌, ◌<◌, ℕ, ◌++◌, Some, length, take, drop, ap, sym, ◌∙◌, arith}
-use Rattle.std.specs.Prelude.{slice_get}
+use Rattle.std.proofs.Common.{◌≡◌, ◌+◌, ◌++◌, length, take, drop, ap, sym, ◌∙◌, arith}
 use Rattle.std.specs.List.{flat_map}
 use Rattle.std.proofs.lemmas.List.{length-take}
 use Rattle.image_format.specs.Tables.{blocks_in}
@@ -33,10 +32,10 @@ loop-k-preserved c =
     let k = c.loop-k.k in
     elim c.match-place_at.branch [
       | in-Some+in_ok-add_block w ↦ record {
-          value = ap (λ v. v.items) w.bytes-is ∙ w.in_ok-add_block.ensures.value ∙ ap (λ ys. ys ++ content w.in-Some.place.block) c.loop-k.invariant.value
-              ∙ sym (block_more content m.extents.placed c.args.before k w.in-Some.place (sym c.place_at.ensures ∙ w.in-Some.is));
-          len = ap (λ v. length v.items) w.bytes-is ∙ omega (arith, w.in_ok-add_block.ensures.len, c.loop-k.invariant.len);
-        }
+        value = ap (λ v. v.items) w.bytes-is ∙ w.in_ok-add_block.ensures.value ∙ ap (λ ys. ys ++ content w.in-Some.place.block) c.loop-k.invariant.value
+            ∙ sym (block_more content m.extents.placed c.args.before k w.in-Some.place (sym c.place_at.ensures ∙ w.in-Some.is));
+        len = ap (λ v. length v.items) w.bytes-is ∙ omega (arith, w.in_ok-add_block.ensures.len, c.loop-k.invariant.len);
+      }
       | in_default w ↦ absurd (no_place m.extents.placed (c.args.before + k) (sym w.in_default.is ∙ c.place_at.ensures) (omega (arith, c.loop-k-test.true, c.page_count-pages.ensures, c.requires.there)))
     ]
 

@@ -1,15 +1,12 @@
-use Rattle.std.proofs.Common.{◌≡◌, ◌≤◌, ◌+◌, ◌∷◌, ◌++◌, List, ℕ, Bool, [], None, length, map, take, drop, ap, sym, subst, ◌∙◌, refl, arith}
+use Rattle.std.proofs.Common.{◌≡◌, ◌≤◌, ◌+◌, ◌∷◌, ◌++◌, List, ℕ, Bool, [], None, map, ap, sym, subst, ◌∙◌, refl, arith}
 use Rattle.std.specs.Prelude.{slice_get, option_copied}
-use Rattle.std.specs.List.{flat_map}
 use Rattle.std.proofs.lemmas.Option.{slice_get_within}
 use Rattle.page_base.specs.Bytes.{Pages}
-use Rattle.image_format.specs.Tables.{stored_of, stored_files, blocks_in, pages_of}
-use Rattle.image_format.specs.Whole.{stands_for}
+use Rattle.image_format.specs.Tables.{stored_of, stored_files, pages_of}
 use Rattle.plain_files.specs.declared.calls.PlainFile.{PlainFile}
 use Rattle.plain_files.specs.Plain as plain
 use Rattle.plain_files.specs.Plain.{State}
 use Rattle.plain_image.specs.Fits.{Fits}
-use Rattle.plain_image.specs.Drives.{plain_file}
 use Rattle.plain_image.specs.Image.{stored_file}
 use Rattle.plain_image.specs.Tables.{files_left}
 use Rattle.plain_image.proofs.Listing.{IsListing, Under, Unnamed, table_listing, listing_fits, next_file, record_at, record_past, all_under, ids_under, none_of_name, files_count, take_whole, pages_within, pages_next, pages_same}
@@ -145,7 +142,7 @@ loop-file-preserved c =
     let files : c.add_file.new.self.files ≡ c.loop-file.plain.files ++ file ∷ [] = ap (λ (s : State). s.files) new in
     let later = c.loop-file.before + c.page_count-before.result in
     let pushed = file_pushed m body i c.loop-file.before later (stored_of f) c.loop-file.plain.files _ file here (ap (λ n. c.loop-file.before + n) c.page_count-before.ensures)
-        (ap (λ (b : List ℕ). with_bytes f.id f.name b f.sealed) c.in_ok-bytes.ensures.value) c.loop-file.invariant.value in
+    (ap (λ (b : List ℕ). with_bytes f.id f.name b f.sealed) c.in_ok-bytes.ensures.value) c.loop-file.invariant.value in
     record {
       listed = file_listed (stored_files t) i f c.in_ok-bytes.bytes c.loop-file.plain.files c.add_file.new.self.files here c.in_ok-bytes.ensures.len c.loop-file.invariant.listed files;
       value = ap (λ fs. fs ++ files_left m body (i + 1) later) files ∙ pushed;

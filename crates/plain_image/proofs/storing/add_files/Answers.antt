@@ -1,8 +1,5 @@
 use Rattle.std.proofs.Common.{◌≡◌, ◌++◌, None, ap, sym, ◌∙◌}
 use Rattle.std.specs.Prelude.{slice_get, option_copied}
-use Rattle.page_base.specs.Bytes.{Pages}
-use Rattle.image_format.specs.Encoding.{fill}
-use Rattle.plain_image.specs.Image.{file_pages}
 use Rattle.plain_image.proofs.Steps.{file_added, all_added, fill_same}
 use Rattle.plain_image.proofs.storing.add_files.Goals as goal
 

@@ -1,5 +1,4 @@
-use Rattle.std.proofs.Common.{◌≡◌, false, ap, sym, ◌∙◌}
-use Rattle.name_table.specs.Files.{Table}
+use Rattle.std.proofs.Common.{ap, sym, ◌∙◌}
 use Rattle.image_format.specs.Reading.{with_file}
 use Rattle.image_format.proofs.Listings.{placed_there, len_set, len_there, seal_set}
 use Rattle.plain_image.proofs.storing.add_name.Goals as goal

@@ -1,9 +1,8 @@
-use Rattle.std.proofs.Common.{◌≡◌, ◌≤◌, ◌+◌, ℕ, List, None, Some, length, map, take, ap, sym, subst, ◌∙◌, refl, arith}
+use Rattle.std.proofs.Common.{◌≡◌, ◌+◌, ℕ, List, None, length, map, ap, sym, ◌∙◌, refl, arith}
 use Rattle.std.specs.Prelude.{slice_get, option_copied}
 use Rattle.std.specs.List.{range_with_len}
 use Rattle.std.proofs.lemmas.Option.{slice_get_within}
 use Rattle.page_base.specs.Bytes.{Pages}
-use Rattle.extent_map.specs.declared.places.Place.{Place}
 use Rattle.extent_map.specs.Places.{Places, with_blocks}
 use Rattle.image_format.specs.Tables.{placed_of, pages_of}
 use Rattle.image_format.proofs.Covers.{placed_none}
@@ -66,7 +65,7 @@ loop-file-preserved c =
     let used = c.loop-file.used in
     let count : c.page_count-count.result ≡ Pages (length f.bytes) = c.page_count-count.ensures ∙ ap (λ (xs : List ℕ). Pages (length xs)) c.as_slice.ensures in
     let step = file_placed files c.loop-file.i (stored_file f) used (used + c.page_count-count.result) c.loop-file.extents c.place_file.new.extents (machine_listing c.args.blocks s c.requires).rise here c.loop-file.invariant.used (ap (λ n. used + n) count) c.loop-file.invariant.placed
-        (c.place_file.ensures ∙ ap (λ n. with_blocks c.loop-file.extents f.id (range_with_len used n)) count) in
+    (c.place_file.ensures ∙ ap (λ n. with_blocks c.loop-file.extents f.id (range_with_len used n)) count) in
     record {
       blocks = step.0 ∙ c.loop-file.invariant.blocks;
       placed = step.1;

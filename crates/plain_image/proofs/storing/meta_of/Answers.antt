@@ -1,4 +1,4 @@
-use Rattle.std.proofs.Common.{◌≡◌, ◌-◌, ◌++◌, replicate, true, false, ap, subst, sym, ◌∙◌, refl, arith}
+use Rattle.std.proofs.Common.{◌-◌, ◌++◌, replicate, true, false, ap, subst, sym, ◌∙◌, refl, arith}
 use Rattle.extent_map.specs.Places.{Places}
 use Rattle.plain_files.specs.Plain.{pages_of}
 use Rattle.plain_image.specs.Fits.{Fits}

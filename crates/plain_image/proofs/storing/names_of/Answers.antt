@@ -1,7 +1,6 @@
-use Rattle.std.proofs.Common.{◌≡◌, ◌≤◌, ◌+◌, None, length, map, take, ap, sym, subst, ◌∙◌, arith}
+use Rattle.std.proofs.Common.{◌≡◌, None, length, map, ap, sym, subst, ◌∙◌, arith}
 use Rattle.std.specs.Prelude.{slice_get, option_copied}
 use Rattle.std.proofs.lemmas.Option.{slice_get_within}
-use Rattle.name_table.specs.Files.{Table}
 use Rattle.image_format.specs.Tables.{stored_files}
 use Rattle.plain_image.specs.Image.{stored_file}
 use Rattle.plain_image.proofs.Listing.{Under, Unnamed, machine_listing, next_file, file_at, file_past, all_under, records_under, none_named, records_count, take_whole, length_files}

@@ -1,4 +1,4 @@
-use Rattle.std.proofs.Common.{◌≡◌, ◌-◌, ◌*◌, ◌++◌, List, ℕ, [], length, replicate, take, Ok, ap, subst, sym, ◌∙◌, refl, arith}
+use Rattle.std.proofs.Common.{◌≡◌, ◌*◌, ap, subst, sym, ◌∙◌}
 use Rattle.image_format.specs.Image.{mounts_to}
 use Rattle.plain_image.specs.Fits.{Fits}
 use Rattle.plain_image.specs.Drives.{drive_of}
