@@ -1,0 +1,10 @@
+pub mod Views
+pub mod Slots
+pub mod Cores
+pub mod Kept
+pub mod Made
+pub mod Stands
+pub mod Extends
+pub mod Errands
+pub mod Noted
+pub mod Settled
