@@ -1,10 +1,9 @@
 -- A call is no longer in flight.
-use Rattle.std.proofs.Common.{◌≡◌, ℕ, ◌+◌, ◌<◌, false, List, Option, Some, None, refl, sym, ap, ◌∙◌, subst, ⊎_elim, arith}
+use Rattle.std.proofs.Common.{◌≡◌, ℕ, ◌+◌, ◌<◌, false, List, Option, Some, None, refl, sym, ap, ◌∙◌, subst, arith}
 use Rattle.std.specs.Prelude.{◌≢◌}
 use Rattle.dispatcher.specs.declared.side.Side.{Side}
-use Rattle.index_lists.specs.Words.{put, one_if}
-use Rattle.index_lists.proofs.Counts.{same_or_not}
-use Rattle.index_lists.proofs.Puts.{put-same, put-other, put-each}
+use Rattle.index_lists.specs.Words.{one_if}
+use Rattle.index_lists.proofs.Puts.{put-other, put-each}
 use Rattle.plain_files.specs.Plain.{State}
 use Rattle.core_state.specs.declared.actor.Actor.{Actor}
 use Rattle.core_state.specs.declared.actor.Actor.TheVariants.{Lane, Worker, Flusher, Closer}
@@ -12,20 +11,8 @@ use Rattle.core_state.specs.State.{Page, Shape, Block, Names, Places, LaneState,
 use Rattle.core_state.specs.InFlight.{claim_of, claims, AreThere, Locked, IsRight, InFlight}
 use Rattle.core_state.specs.Frames.{frames_of, used, in_queue, is_queued, AreQueued}
 use Rattle.core_state.specs.Dies.{owner, MayFlush, MaySync, IsErrand, Dies, Gathered}
-use Rattle.core_lemmas.proofs.Words.{nothing, same_some, sum_to-put}
-
--- the calls without that of the lane
-abbrev pub without_call : (ℕ → Option Flight) → ℕ → ℕ → Option Flight
-without_call calls lane = put calls lane None
-
--- a call that is still there is another lane's, and was there
-pub still_there : (calls : ℕ → Option Flight) (lane l : ℕ) (x : Flight) → without_call calls lane l ≡ Some x → (l ≢ lane) × (calls l ≡ Some x)
-still_there calls lane l x e = ⊎_elim
-    (λ (s : l ≡ lane). absurd (nothing (without_call calls lane l) x (ap (without_call calls lane) s ∙ put-same calls lane None) e))
-    (λ (d : l ≢ lane). (d, sym (put-other calls lane None l d) ∙ e)) (same_or_not l lane)
-
-pub other_there : (calls : ℕ → Option Flight) (lane l : ℕ) (x : Flight) → l ≢ lane → calls l ≡ Some x → without_call calls lane l ≡ Some x
-other_there calls lane l x d e = put-other calls lane None l d ∙ e
+use Rattle.core_lemmas.proofs.Words.{same_some, sum_to-put}
+use Rattle.core_lemmas.proofs.Calls.{without_call, still_there, other_there}
 
 pub still_claimed : (calls : ℕ → Option Flight) (lane l : ℕ) (a : Claim) → claims (without_call calls lane) l ≡ Some a → claims calls l ≡ Some a
 still_claimed calls lane l a = put-each (λ (l : ℕ) (o : Option Flight). claim_of o ≡ Some a → claims calls l ≡ Some a) calls lane None (λ e. absurd (cc)) (λ l d e. e) l

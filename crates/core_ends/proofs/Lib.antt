@@ -2,4 +2,3 @@ pub mod Landing
 pub mod Returning
 pub mod Plainly
 pub mod Ending
-pub mod Legal

@@ -1,7 +1,7 @@
 -- The End of a call that stores nothing: its loans go back, and it is no longer in flight.
 use Rattle.std.proofs.Common.{◌≡◌, ℕ, ◌<◌, ◌≤◌, Bool, true, false, List, [], ◌∷◌, length, Option, Some, None, refl, sym, ap, ◌∙◌, subst, inl, inr, arith}
-use Rattle.std.specs.Prelude.{◌≢◌, ◌⊎◌, ◌&&◌, not, map, is_some, if◌then◌else◌, bytes_eq, option_map}
-use Rattle.std.specs.List.{Contains, filter, find}
+use Rattle.std.specs.Prelude.{◌≢◌, ◌⊎◌, ◌&&◌, not, map, is_some, if◌then◌else◌}
+use Rattle.std.specs.List.{Contains, filter}
 use mathlib.Core.Path.{fun_ext}
 use Rattle.dispatcher.specs.declared.side.Side.{Side}
 use Rattle.dispatcher.specs.declared.side.Side.TheVariants.{Host, Drive}
@@ -9,13 +9,12 @@ use Rattle.coherence.specs.Paired.{by_side}
 use Rattle.index_lists.specs.Words.{put, count}
 use Rattle.index_lists.proofs.Puts.{put-other}
 use Rattle.plain_files.specs.declared.calls.Call.{Call}
-use Rattle.plain_files.specs.Plain as plain_files
 use Rattle.plain_files.specs.Plain.{State}
 use Rattle.core_state.specs.declared.actor.Actor.TheVariants.{Lane}
 use Rattle.core_state.specs.Words.{sum_to, listed_to, all_last, Lists, EachBehind}
 use Rattle.core_state.specs.State.{Page, Shape, Block, File, Function, Names, Places, LaneState, Phase, Held, Queued, Running, Reported, Flight, Out, Core}
 use Rattle.core_state.specs.Contents.{InNeitherCache, IsBlank, contents, span_block, has_copy, is_unclean}
-use Rattle.core_state.specs.Reach.{claim_for, file_for, function_by, function_word}
+use Rattle.core_state.specs.Reach.{claim_for, file_for, function_word}
 use Rattle.core_state.specs.PlainOf.{plain_file, plain_function, plain_of, plain}
 use Rattle.core_state.specs.Sides.{learnt, with_learnt}
 use Rattle.core_state.specs.Placed.{AreNamed, HavePlaces, Tails}
@@ -27,9 +26,10 @@ use Rattle.core_state.specs.LaneEvents.{replied}
 use Rattle.core_state.specs.EndEvent.{lent_at, back_from, back_order, returned, landed}
 use Rattle.core_lemmas.proofs.Words.{lists_same}
 use Rattle.core_lemmas.proofs.Blocks.{kept_rest, flush_rest, errand_blocks, fill_stays}
-use Rattle.core_lemmas.proofs.Views.{find_map}
+use Rattle.core_lemmas.proofs.Views.{function_there}
 use Rattle.core_pages.proofs.Gathering.{gains_frame}
-use Rattle.core_ends.proofs.Landing.{without_call, still_there, other_there, used_gone, locked_gone, in_flight_gone, queued_gone, dies_gone, gathered_gone}
+use Rattle.core_lemmas.proofs.Calls.{without_call, still_there, other_there}
+use Rattle.core_ends.proofs.Landing.{used_gone, locked_gone, in_flight_gone, queued_gone, dies_gone, gathered_gone}
 use Rattle.core_ends.proofs.Returning.{Went, Back, Stayed, returned_block, went, went_rest, went_copies, went_hand, went_lent, went_other, went_unlent, went_gains, back_has, back_listed, back_unlisted, back_weight, all_last_order, length-all_last, count-filter}
 
 -- ---- functions of other e
@@ -49,17 +49,6 @@ learnt_functions word used pages (f ∷ fs) = ap (λ gs. plain_function f ∷ gs
 
 pub learnt_names : (call : Call) (used pages : ℕ) (names : Names) → SameNames names (with_learnt call used pages names)
 learnt_names call used pages names = record { files = refl; next = refl; functions = learnt_functions (function_word call) used pages names.functions }
-
-is_some_map : {A B : Type 0} (f : A → B) (o : Option A) → is_some (option_map f o) ≡ is_some o
-is_some_map f None = refl
-is_some_map f (Some x) = refl
-
-function_there : (fs gs : List Function) (word : Option (List ℕ)) → map plain_function gs ≡ map plain_function fs → is_some (function_by gs word) ≡ is_some (function_by fs word)
-function_there fs gs None e = refl
-function_there fs gs (Some name) e =
-    sym (is_some_map plain_function (function_by gs (Some name))) ∙ (ap is_some (sym (find_map plain_function (λ (f : plain_files.Function). bytes_eq f.name name) gs))
-    ∙ (ap (λ (xs : List plain_files.Function). is_some (find (λ (f : plain_files.Function). bytes_eq f.name name) xs)) e
-    ∙ (ap is_some (find_map plain_function (λ (f : plain_files.Function). bytes_eq f.name name) fs) ∙ is_some_map plain_function (function_by fs (Some name)))))
 
 same_named : (names names2 : Names) → SameNames names names2 → EachBehind (λ (f g : Function). f.name ≢ g.name) names2.functions → AreNamed names → AreNamed names2
 same_named names names2 s apart h = record {
@@ -85,6 +74,13 @@ same_plain shape names names2 places pages s =
     λ i. record { files = a i; next = n i; functions = f i; capacity = shape.blocks }
 
 -- ---- the End
+
+-- pages that go back keep every content
+pub returned_contents : (c : Core) (lane : ℕ) (call : Flight) → Coherent c → contents (returned c lane call).blocks ≡ contents c.blocks
+returned_contents c lane call h = fun_ext (λ b. (went_rest call.claim.side lane (c.blocks b) ((returned c lane call).blocks b) (h.lent.alone b) (went call.claim.side lane (c.blocks b))).content)
+
+pub returned_plain : (c : Core) (lane : ℕ) (call : Flight) (names2 : Names) → Coherent c → SameNames c.names names2 → plain (landed (returned c lane call) lane names2) ≡ plain c
+returned_plain c lane call names2 h s = same_plain c.shape c.names names2 c.places (contents (returned c lane call).blocks) s ∙ ap (plain_of c.shape c.names c.places) (returned_contents c lane call h)
 
 pub plainly_keeps : (c : Core) (lane : ℕ) (call : Flight) (names2 : Names) → Coherent c → c.calls lane ≡ Some call → owner lane call.phase ≡ Some (Lane lane) → ((die : ℕ) (out : Out) → (c.dies die).out ≡ Some out → out.holder ≢ Lane lane) →
     SameNames c.names names2 → EachBehind (λ (f g : Function). f.name ≢ g.name) names2.functions → Coherent (landed (returned c lane call) lane names2)
@@ -137,10 +133,10 @@ plainly_keeps c lane call names2 h e owns free s apart = record {
     at b = went side lane (c.blocks b)
 
     kept : contents blocks2 ≡ contents c.blocks
-    kept = fun_ext (λ b. (went_rest side lane (c.blocks b) (blocks2 b) (h.lent.alone b) (at b)).content)
+    kept = returned_contents c lane call h
 
     plain_same : plain_of c.shape names2 c.places (contents blocks2) ≡ plain c
-    plain_same = same_plain c.shape c.names names2 c.places (contents blocks2) s ∙ ap (plain_of c.shape c.names c.places) kept
+    plain_same = returned_plain c lane call names2 h s
 
     lanes_same : (l : ℕ) → l ≢ lane → lanes2 l ≡ c.lanes l
     lanes_same l d = put-other c.lanes lane (replied (c.lanes lane)) l d

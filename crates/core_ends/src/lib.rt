@@ -1,4 +1,4 @@
-//! Laws of the core: each event is legal on plain files, and a call that ends and stores nothing keeps a core coherent.
+//! Laws of the core: a call that ends and stores nothing keeps a core coherent, and leaves the plain state.
 #![tactic(auto)]
 
 pub mod laws;

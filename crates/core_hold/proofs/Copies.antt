@@ -1,5 +1,5 @@
 -- Copy, Take, Evict and Demote.
-use Rattle.std.proofs.Common.{◌≡◌, ℕ, Bool, Option, Some, None, refl, sym, ap, ◌∙◌, subst, arith}
+use Rattle.std.proofs.Common.{◌≡◌, ℕ, Bool, Option, Some, None, refl, sym, ap, ◌∙◌, subst}
 use Rattle.std.specs.Prelude.{◌≢◌, if◌then◌else◌, is_some}
 use Rattle.page_base.specs.Bytes.{zero_page}
 use Rattle.dispatcher.specs.declared.side.Side.{Side}
@@ -7,8 +7,8 @@ use Rattle.index_lists.specs.Words.{put}
 use Rattle.core_state.specs.declared.actor.Actor.{Actor}
 use Rattle.core_state.specs.declared.event.Event.TheVariants.{Copy, Take, Evict, Demote}
 use Rattle.core_state.specs.Words.{changed_at}
-use Rattle.core_state.specs.State.{Page, Loan, Block, Names, Places, Claim, NoFrame, OnLoan, Phase, Flight, Core}
-use Rattle.core_state.specs.Contents.{with_copy, content, contents, flashes, page_of, span_block, has_copy}
+use Rattle.core_state.specs.State.{Page, Block, Names, Places, Claim, NoFrame, OnLoan, Phase, Flight, Core}
+use Rattle.core_state.specs.Contents.{with_copy, contents, flashes, page_of, span_block, has_copy}
 use Rattle.core_state.specs.Reach.{function_for}
 use Rattle.core_state.specs.Dies.{owner}
 use Rattle.core_state.specs.PageEvents.{of_block, with_gathered, read_block, is_only_there, copied_from, copied_of, lent_block, taken_from, taken_of, is_spare, is_demotable, order_at}
@@ -18,6 +18,7 @@ use Rattle.core_lemmas.proofs.Finds.{found_passes}
 use Rattle.core_lanes.proofs.Phases.{flight_is}
 use Rattle.core_pages.proofs.Idle.{and_parts, evicted_content, moved_content, listed_at, none_is}
 use Rattle.core_pages.proofs.Copy.{read_content}
+use Rattle.core_pages.proofs.Plains.{taken_content}
 use Rattle.core_hold.specs.Keeps.{KeepsHolds}
 use Rattle.core_hold.proofs.Actors.{not_owner}
 use Rattle.core_hold.proofs.Views.{same_hold, lane_flies, seen_by, seen_put, owned_put, not_owned, contents_changed, flashes_put, flashes_changed}
@@ -99,14 +100,6 @@ copy_holds actor lane i c c2 a h s n =
         (changed_at c.blocks at (read_block call.claim.side)) a e refl refl owns n
         (contents_changed c.blocks at (read_block call.claim.side) (read_content call.claim.side))
         (flashes_changed c.blocks at (read_block call.claim.side) (λ x. refl))
-
-taken_content : (lane : ℕ) (x : Block) → content (lent_block lane x) ≡ content x
-taken_content lane x = go x.host x.drive x.lent refl refl refl
-  where
-    go : (o d : Option Page) (l : Option Loan) → x.host ≡ o → x.drive ≡ d → x.lent ≡ l → content (lent_block lane x) ≡ content x
-    go None None l eo ed el = grind arith
-    go None (Some q) l eo ed el = grind arith
-    go (Some p) d l eo ed el = grind arith
 
 pub take_holds : (actor : Actor) (lane i : ℕ) → KeepsHolds (Take actor lane i)
 take_holds actor lane i c c2 a h s n =

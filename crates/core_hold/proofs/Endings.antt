@@ -1,5 +1,5 @@
 -- End, where the call stores nothing: its pages go back, its lock and frames are given up.
-use Rattle.std.proofs.Common.{◌≡◌, ℕ, ◌+◌, Bool, true, false, List, Option, Some, None, refl, sym, ap, ◌∙◌, ⊎_elim}
+use Rattle.std.proofs.Common.{◌≡◌, ℕ, ◌+◌, Bool, true, false, List, Option, Some, None, refl, sym, ap, ◌∙◌}
 use Rattle.std.specs.Prelude.{◌≢◌, ◌==◌, option_map, if◌then◌else◌, bytes_eq}
 use mathlib.Core.Path.{fun_ext}
 use Rattle.page_base.specs.Bytes.{zero_page}
@@ -8,13 +8,12 @@ use Rattle.dispatcher.specs.declared.side.Side.TheVariants.{Host, Drive}
 use Rattle.coherence.specs.Paired.{by_side}
 use Rattle.coherence.specs.Changes.{page_or}
 use Rattle.index_lists.specs.Words.{put}
-use Rattle.index_lists.proofs.Counts.{same_or_not}
-use Rattle.index_lists.proofs.Puts.{put-same, put-other}
+use Rattle.index_lists.proofs.Puts.{put-same}
 use Rattle.plain_files.specs.declared.calls.Call.{Call}
 use Rattle.plain_files.specs.Plain.{State}
 use Rattle.core_state.specs.declared.actor.Actor.{Actor}
 use Rattle.core_state.specs.declared.actor.Actor.TheVariants.{Lane}
-use Rattle.core_state.specs.State.{Page, Loan, Block, File, Function, Names, Places, Claim, Held, Phase, Reported, Flight, Core}
+use Rattle.core_state.specs.State.{Page, Loan, Block, File, Function, Names, Places, Claim, Flight, Core}
 use Rattle.core_state.specs.Contents.{lent_page, content, contents, flashes, InNeitherCache}
 use Rattle.core_state.specs.Reach.{file_for, len_or_none, function_word, function_by, function_for}
 use Rattle.core_state.specs.PlainOf.{plain, outcome_of, used_of, fuel_of}
@@ -22,8 +21,9 @@ use Rattle.core_state.specs.Sides.{learnt}
 use Rattle.core_state.specs.Dies.{owner}
 use Rattle.core_state.specs.Coherent.{Coherent}
 use Rattle.core_state.specs.LaneEvents.{replied}
-use Rattle.core_state.specs.EndEvent.{back_from, learnt_by, ended_plainly, ended_by_fault, IsAtEnd, is_reported}
+use Rattle.core_state.specs.EndEvent.{back_from, learnt_by, ended_plainly, ended_by_fault}
 use Rattle.core_state.specs.Hold.{code_of, len_seen, readable_seen, dies_held, call_seen, hold}
+use Rattle.core_lemmas.proofs.Calls.{still_there}
 use Rattle.core_lemmas.proofs.Views.{find_map}
 use Rattle.core_hold.proofs.Actors.{not_owner, not_seeing}
 use Rattle.core_hold.proofs.Views.{same_hold, lane_other, lane_other_call, seen_put, unseen, owned_put, owned_lane, not_owned_at}
@@ -43,14 +43,6 @@ over c lane names places blocks =
       last = c.last + 1;
     }
 
-none_some : {A : Type 0} (x : A) → None ≡ Some x → ⊥
-none_some x e = cc
-
-still_there : (calls : ℕ → Option Flight) (lane l : ℕ) (x : Flight) → put calls lane None l ≡ Some x → (l ≢ lane) × (calls l ≡ Some x)
-still_there calls lane l x e = ⊎_elim
-    (λ (s : l ≡ lane). absurd (none_some x (sym (put-same calls lane None) ∙ (ap (put calls lane None) (sym s) ∙ e))))
-    (λ (d : l ≢ lane). (d, sym (put-other calls lane None l d) ∙ e)) (same_or_not l lane)
-
 pub over_holds : (c : Core) (lane : ℕ) (call : Flight) (names : Names) (places : Places) (blocks : ℕ → Block) (a : Actor) → c.calls lane ≡ Some call → owner lane call.phase ≡ Some (Lane lane) → a ≢ Lane lane →
     flashes blocks ≡ flashes c.blocks →
     ((l : ℕ) (x : Flight) → l ≢ lane → c.calls l ≡ Some x → StillSees c.names names c.places places (contents c.blocks) (contents blocks) x.claim) → hold (over c lane names places blocks) a ≡ hold c a
@@ -67,13 +59,6 @@ over_holds c lane call names places blocks a e owns n flash sees =
     (sym (ap (call_seen c.names c.places (contents c.blocks) a lane) e ∙ unseen c.names c.places (contents c.blocks) a lane call hidden)))
     (owned_lane c.lanes a calls lane x (no_call_owned (c.lanes lane) x a lane (put c.calls lane None lane) (put-same c.calls lane None))
     ∙ owned_put c.lanes a c.calls lane None (sym (not_owned_at (c.lanes lane) a lane (c.calls lane) call e free))) refl
-
-reported_owned : (lane : ℕ) (phase : Phase) → is_reported phase ≡ true → owner lane phase ≡ Some (Lane lane)
-reported_owned lane (Reported r) e = refl
-reported_owned lane phase e = absurd (cc)
-
-pub end_owned : (lane : ℕ) (call : Flight) → IsAtEnd call → owner lane call.phase ≡ Some (Lane lane)
-end_owned lane call h = ⊎_elim (λ (k : (call.phase ≡ Held) × (call.claim.side ≡ Host)). ap (owner lane) k.0) (λ (k : is_reported call.phase ≡ true). reported_owned lane call.phase k) h
 
 -- ---- a function has learnt
 

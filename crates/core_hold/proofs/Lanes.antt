@@ -12,14 +12,10 @@ use Rattle.core_state.specs.Contents.{contents}
 use Rattle.core_state.specs.Reach.{claim_for}
 use Rattle.core_state.specs.LaneEvents.{replied, first_flight}
 use Rattle.core_state.specs.Hold.{call_seen, call_owned, hold}
+use Rattle.core_lanes.proofs.Idle.{none_of}
 use Rattle.core_hold.specs.Keeps.{KeepsHolds}
 use Rattle.core_hold.proofs.Actors.{not_owner, not_seeing}
 use Rattle.core_hold.proofs.Views.{same_hold, lane_other, lane_other_call, seen_put, unseen, owned_put, owned_lane, not_owned}
-
--- an option with no value is none
-none_of : {A : Type 0} (o : Option A) → ((x : A) → o ≡ Some x → ⊥) → o ≡ None
-none_of None h = refl
-none_of (Some x) h = absurd (h x refl)
 
 -- nobody owns what isn't there
 pub no_call_owned : (l l2 : LaneState) (a : Actor) (lane : ℕ) (o : Option Flight) → o ≡ None → call_owned l2 a lane o ≡ call_owned l a lane o

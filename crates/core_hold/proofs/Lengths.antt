@@ -1,23 +1,17 @@
 -- What a call in flight sees of its file's length stays, where another call changes the length within the pages that it locks.
-use Rattle.std.proofs.Common.{◌≡◌, ℕ, ◌+◌, ◌-◌, ◌<◌, ◌≤◌, Bool, true, false, Some, None, refl, sym, ap, ◌∙◌, inl, inr, ⊎_elim, arith}
-use Rattle.std.specs.Prelude.{◌≢◌, ◌⊎◌, ◌/◌, ◌&&◌, ◌||◌, nat_lt, min, if◌then◌else◌}
+use Rattle.std.proofs.Common.{◌≡◌, ℕ, ◌+◌, ◌-◌, ◌<◌, ◌≤◌, Bool, true, false, Some, None, refl, sym, ap, ◌∙◌, ⊎_elim, arith}
+use Rattle.std.specs.Prelude.{◌≢◌, ◌/◌, ◌&&◌, ◌||◌, nat_lt, min, if◌then◌else◌}
 use Rattle.std.proofs.lemmas.Bool.Decides.{nat_tests}
 use Rattle.page_base.specs.Bytes.{Pages}
 use Rattle.index_lists.proofs.Counts.{same_or_not}
 use Rattle.core_state.specs.State.{Reach, Claim}
 use Rattle.core_state.specs.Reach.{is_trunc, is_read, is_exclusive, lengthens}
 use Rattle.core_state.specs.Hold.{len_seen, readable_seen}
+use Rattle.core_lemmas.proofs.Words.{less_or_not}
 use Rattle.core_hold.proofs.Reaches.{Stretches, Apart, Tells, changed_at, came, went}
 
 below_page : (len : ℕ) → Pages len ≤ 65536 → len / 4096 < 65537
 below_page len l = omega arith
-
-less_or_not : (m n : ℕ) → (m < n) ⊎ (n ≤ m)
-less_or_not m n = go (nat_lt m n) refl
-  where
-    go : (t : Bool) → nat_lt m n ≡ t → (m < n) ⊎ (n ≤ m)
-    go true e = inl (grind (arith, nat_tests))
-    go false e = inr (grind (arith, nat_tests))
 
 not_both : (t u : Bool) → (t ≡ true → u ≡ true → ⊥) → (t && u) ≡ false
 not_both true true h = absurd (h refl refl)

@@ -13,8 +13,11 @@ pub mod Endings
 pub mod Outputs
 pub mod Reaches
 pub mod Lengths
+pub mod Rests
 pub mod Stores
 pub mod Spanning
+pub mod Others
+pub mod Changes
 pub mod Storing
 pub mod Ends
 pub mod All

@@ -1,15 +1,16 @@
 -- A die goes out: DieOut and FlushOut.
-use Rattle.std.proofs.Common.{◌≡◌, ℕ, true, Option, Some, None, refl, sym, ap, ◌∙◌}
-use Rattle.std.specs.Prelude.{◌≢◌, is_none}
+use Rattle.std.proofs.Common.{◌≡◌, ℕ, None, refl, sym, ap, ◌∙◌}
+use Rattle.std.specs.Prelude.{◌≢◌}
 use Rattle.core_state.specs.declared.actor.Actor.{Actor}
 use Rattle.core_state.specs.declared.event.Event.TheVariants.{DieOut, FlushOut}
 use Rattle.core_state.specs.declared.event.Purpose.{Purpose}
 use Rattle.core_state.specs.declared.event.Purpose.TheVariants.{Fill, Meta}
-use Rattle.core_state.specs.State.{Errand, ToFill, ToMeta, Out, Core}
+use Rattle.core_state.specs.State.{Errand, ToFill, ToMeta, Core}
 use Rattle.core_state.specs.Contents.{flashes}
 use Rattle.core_state.specs.DieEvents.{die_out, sent, flush_of, is_flushable}
 use Rattle.core_state.specs.Hold.{hold}
 use Rattle.core_lemmas.proofs.Finds.{found_passes}
+use Rattle.core_lanes.proofs.Outward.{home_is}
 use Rattle.core_hold.specs.Keeps.{KeepsHolds}
 use Rattle.core_hold.proofs.Actors.{not_actor, not_held}
 use Rattle.core_hold.proofs.Views.{same_hold}
@@ -25,10 +26,6 @@ out_holds c actor die errand a home n =
 pub die_out_holds : (actor : Actor) (die : ℕ) (purpose : Purpose) → KeepsHolds (DieOut actor die purpose)
 die_out_holds actor die (Fill lane i) c c2 a h s n = ap (λ (k : Core). hold k a) s.leaves ∙ out_holds c actor die (ToFill lane i) a s.may.home n
 die_out_holds actor die (Meta page bytes) c c2 a h s n = ap (λ (k : Core). hold k a) s.leaves ∙ out_holds c actor die (ToMeta page bytes) a s.may.home n
-
-home_is : (o : Option Out) → is_none o ≡ true → o ≡ None
-home_is None e = refl
-home_is (Some x) e = absurd (cc)
 
 pub flush_out_holds : (actor : Actor) (die block : ℕ) → KeepsHolds (FlushOut actor die block)
 flush_out_holds actor die block c c2 a h s n =

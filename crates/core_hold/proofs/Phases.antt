@@ -1,20 +1,20 @@
 -- Submit, Fetch and Report.
-use Rattle.std.proofs.Common.{◌≡◌, ℕ, ◌+◌, Bool, true, false, Option, Some, None, refl, sym, ap, ◌∙◌, subst, inl, inr, ⊎_elim, arith}
+use Rattle.std.proofs.Common.{◌≡◌, ℕ, Bool, false, Option, Some, None, refl, sym, ap, ◌∙◌, subst, inl, inr, ⊎_elim}
 use Rattle.std.specs.Prelude.{◌≢◌, ◌⊎◌, if◌then◌else◌, is_some}
 use mathlib.Core.Path.{fun_ext}
-use Rattle.index_lists.specs.Words.{put, count, one_if}
+use Rattle.index_lists.specs.Words.{put, count}
 use Rattle.index_lists.proofs.Counts.{same_or_not, count-here}
 use Rattle.index_lists.proofs.Puts.{put-same, put-other}
 use Rattle.core_state.specs.declared.actor.Actor.{Actor}
 use Rattle.core_state.specs.declared.actor.Actor.TheVariants.{Lane, Worker, Flusher, Closer}
 use Rattle.core_state.specs.declared.event.Event.TheVariants.{Submit, Fetch}
-use Rattle.core_state.specs.State.{Page, Names, Places, LaneState, Phase, Held, Queued, Running, Reported, Flight, Core}
+use Rattle.core_state.specs.State.{Page, Names, Places, LaneState, Phase, Held, Queued, Running, Flight, Core}
 use Rattle.core_state.specs.Contents.{contents}
-use Rattle.core_state.specs.Frames.{in_queue, is_queued}
+use Rattle.core_state.specs.Frames.{is_queued}
 use Rattle.core_state.specs.LaneEvents.{result_of}
 use Rattle.core_state.specs.Hold.{is_owner, is_held, SeenCall, seen_call, call_seen, OwnedCall, owned_call, call_owned, hold}
 use Rattle.core_lemmas.proofs.Calls.{phased}
-use Rattle.core_lanes.proofs.Phases.{flight_is}
+use Rattle.core_lanes.proofs.Phases.{flight_is, InQueue, queued_call_of, true_of}
 use Rattle.core_hold.specs.Keeps.{KeepsHolds, owned_in, with_report, HandsBack}
 use Rattle.core_hold.proofs.Actors.{is_itself, not_owner, unowned, not_seeing, lane_sees}
 use Rattle.core_hold.proofs.Views.{same_hold, lane_other_call, lane_flies, seen_by, seen_put, unseen, owned_by, owned_put, not_owned}
@@ -69,26 +69,6 @@ still_flies : (c : Core) (lane : ℕ) (call call2 : Flight) (a : Actor) → c.ca
 still_flies c lane call call2 a e = sym (ap is_some e)
 
 -- ---- Fetch
-
-in_queue_is : (phase : Phase) → in_queue phase ≡ true → phase ≡ Queued
-in_queue_is Held e = absurd (cc)
-in_queue_is Queued e = refl
-in_queue_is (Running w) e = absurd (cc)
-in_queue_is (Reported r) e = absurd (cc)
-
--- a call that is queued
-record InQueue (o : Option Flight) : Type 0 where
-  call : Flight
-  flies : o ≡ Some call
-  phase : call.phase ≡ Queued
-
-queued_call_of : (o : Option Flight) → is_queued o ≡ true → InQueue o
-queued_call_of None e = absurd (cc)
-queued_call_of (Some call) e = record { call = call; flies = refl; phase = in_queue_is call.phase e }
-
-true_of : (t : Bool) (n : ℕ) → n + 1 ≡ one_if t → t ≡ true
-true_of true n e = refl
-true_of false n e = absurd (omega arith)
 
 -- the lane of a call that is fetched sees it, and owns it neither before nor after
 fetched_lane : (c : Core) (worker lane : ℕ) (call : Flight) → c.calls lane ≡ Some call → call.phase ≡ Queued → hold (in_new_phase c lane call (Running worker)) (Lane lane) ≡ hold c (Lane lane)

@@ -35,6 +35,7 @@ use Rattle.core_lemmas.proofs.Views.{file_seen}
 use Rattle.core_quick.proofs.Named.{find_append, find_without}
 use Rattle.core_quick.proofs.Renamed.{len_by_id, follows_is}
 use Rattle.core_quick.proofs.Flying.{flies_on, file_flies, function_flies}
+use Rattle.core_quick.proofs.Sealed.{sealing}
 use Rattle.core_hold.specs.Keeps.{KeepsHolds}
 use Rattle.core_hold.proofs.Views.{same_hold, lane_other, owned_lane}
 use Rattle.core_hold.proofs.Lanes.{no_call_owned}
@@ -129,9 +130,6 @@ unloaded_alike c name unused lane a e = record {
 }
 
 -- ---- Seal
-
-abbrev sealing : PlainFile → PlainFile
-sealing f = record f { sealed = true }
 
 sealed_len : (name : List ℕ) (test : PlainFile → Bool) → ((x : PlainFile) → test (sealing x) ≡ test x) → (files : List PlainFile) → plain_len (find test (with_sealed name files)) ≡ plain_len (find test files)
 sealed_len name test same [] = refl

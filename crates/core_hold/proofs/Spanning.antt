@@ -12,6 +12,7 @@ use Rattle.core_state.specs.State.{Page, Block, Places}
 use Rattle.core_state.specs.Contents.{flashes}
 use Rattle.core_state.specs.Resizing.{page_between, new_places}
 use Rattle.core_state.specs.EndEvent.{installed_at, with_span}
+use Rattle.core_lemmas.proofs.Words.{low, high}
 
 none_else : (n : ℕ) (o : Option ℕ) (t : Bool) → o ≡ None → t ≡ false → or_else o (if t then Some n else None) ≡ None
 none_else n o true e f = absurd (cc)
@@ -52,12 +53,6 @@ same_id id = grind (arith, nat_tests)
 
 pub own_place : (places : Places) (id : ℕ) (fresh : List ℕ) (from to p : ℕ) → new_places places id fresh from to id p ≡ page_between (places id) fresh from to p
 own_place places id fresh from to p = ap (λ (t : Bool). if t then page_between (places id) fresh from to p else places id p) (same_id id)
-
-low : (p n : ℕ) → nat_lt p n ≡ true → p < n
-low p n e = grind (arith, nat_tests)
-
-high : (p n : ℕ) → nat_lt p n ≡ false → n ≤ p
-high p n e = grind (arith, nat_tests)
 
 -- a page that neither comes nor goes
 pub page_stays : (row : ℕ → Option ℕ) (fresh : List ℕ) (from to p : ℕ) → (from ≤ p → p < to → ⊥) → (to ≤ p → p < from → ⊥) → (from ≤ p → row p ≡ None) → page_between row fresh from to p ≡ row p

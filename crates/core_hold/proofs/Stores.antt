@@ -1,6 +1,7 @@
--- A call that stores: the bytes of its file are new, and a change of their length lies within the pages that it locks.
+-- A call that stores: the bytes of its file are new, a change of their length lies within the pages that it locks, its span lies within
+-- the pages of the new bytes, these fit, and a page that is cut in part is in the span.
 use Rattle.std.proofs.Common.{◌≡◌, ℕ, ◌+◌, ◌-◌, ◌<◌, ◌≤◌, Bool, true, false, List, ◌++◌, length, take, drop, Option, Some, None, refl, sym, ap, ◌∙◌, subst, arith}
-use Rattle.std.specs.Prelude.{◌==◌, ◌/◌, ◌^◌, nat_lt, min, replicate, if◌then◌else◌, Ok}
+use Rattle.std.specs.Prelude.{◌==◌, ◌/◌, ◌%◌, ◌*◌, ◌^◌, ◌&&◌, not, nat_lt, min, replicate, if◌then◌else◌, Ok}
 use Rattle.std.proofs.lemmas.Bool.Decides.{nat_tests}
 use Rattle.std.proofs.lemmas.List.{length-append, length-take, length-drop, length-replicate}
 use Rattle.page_base.specs.Bytes.{Pages, Cut, Put}
@@ -16,6 +17,7 @@ use Rattle.core_state.specs.Reach.{is_exclusive, file_word, no_reach, read_reach
 use Rattle.core_state.specs.PlainOf.{has_stored}
 use Rattle.core_hold.proofs.Reaches.{Stretches}
 use Rattle.core_hold.proofs.Outputs.{EndsAsLong, run_long}
+use Rattle.core_hold.proofs.Rests.{RestStays, write_rest, trunc_rest}
 
 -- ---- lengths
 
@@ -43,7 +45,7 @@ put_length file bytes off l = go (length bytes == 0) refl
     go true e = let z : length bytes ≡ 0 = grind (arith, nat_tests) in absurd (omega arith)
     go false e = let s = sum in record { within = λ k. omega arith; past = λ k. omega arith }
 
-with_length_is : (bytes : List ℕ) (n : ℕ) → length (with_length bytes n) ≡ n
+pub with_length_is : (bytes : List ℕ) (n : ℕ) → length (with_length bytes n) ≡ n
 with_length_is bytes n =
     let a = length-append (take n bytes) (replicate (n - length bytes) 0) in
     let b = length-take n bytes in
@@ -63,10 +65,15 @@ last_test false false false false false h = refl
 not_more : (n : ℕ) → nat_lt 268435456 n ≡ false → n ≤ 268435456
 not_more n e = grind (arith, nat_tests)
 
-end_fits : (s : State) (call : Call) → early s call ≡ None → end_of s call ≤ 268435456
+pub end_fits : (s : State) (call : Call) → early s call ≡ None → end_of s call ≤ 268435456
 end_fits s call e = not_more (end_of s call) (last_test (is_too_long call) (lacks_file s call) (lacks_function s call) (is_append_only s call) (nat_lt (2 ^ 28) (end_of s call)) e)
 
 -- ---- reaches that store
+
+-- the span lies within the pages of the new bytes, of which there are few, and has the page that is cut in part
+pub record Spans (reach : Reach) (len new : ℕ) : Type 0 where
+  pub within : (i : ℕ) → i < reach.pages → reach.first + i < Pages new
+  pub cut : (p j : ℕ) → j < 4096 → new < len → p < Pages new → new ≤ 4096 * p + j → (reach.first ≤ p) × (p < reach.first + reach.pages)
 
 write_stretches : (off n len new : ℕ) → is_exclusive (write_reach off n len).mode ≡ true → off + n ≤ 268435456 → (0 < n → LongAs len (off + n) new) → Stretches (write_reach off n len) len new
 write_stretches off n len new m fits long = go (n == 0) (nat_lt len (off + n)) refl refl m
@@ -90,6 +97,36 @@ write_stretches off n len new m fits long = go (n == 0) (nat_lt len (off + n)) r
 trunc_stretches : (n len : ℕ) → n ≤ 268435456 → Stretches (trunc_reach n len) len n
 trunc_stretches n len fits = record { grows = λ l. (omega arith, omega arith, omega arith); cuts = λ l. (omega arith, omega arith) }
 
+write_spans : (off n len new : ℕ) → is_exclusive (write_reach off n len).mode ≡ true → (0 < n → LongAs len (off + n) new) → Spans (write_reach off n len) len new
+write_spans off n len new m long = go (n == 0) (nat_lt len (off + n)) refl refl m
+  where
+    r : Bool → Bool → Reach
+    r z u = if z then no_reach else record { mode = Exclusive; from = if u then min (off / 4096) (len / 4096) else off / 4096; to = Pages (off + n); first = off / 4096; pages = Pages (off + n) - off / 4096; begin = off; end = off + n }
+
+    go : (z u : Bool) → (n == 0) ≡ z → nat_lt len (off + n) ≡ u → is_exclusive (r z u).mode ≡ true → Spans (r z u) len new
+    go true u e f k = absurd (cc)
+    go false true e f k =
+        let pos : 0 < n = grind (arith, nat_tests) in
+        let more : len < off + n = grind (arith, nat_tests) in
+        let is : new ≡ off + n = (long pos).past (omega arith) in
+        record { within = λ i l. omega arith; cut = λ p j a b. absurd (omega arith) }
+    go false false e f k =
+        let pos : 0 < n = grind (arith, nat_tests) in
+        let less : off + n ≤ len = grind (arith, nat_tests) in
+        let is : new ≡ len = (long pos).within less in
+        record { within = λ i l. omega arith; cut = λ p j a b. absurd (omega arith) }
+
+trunc_spans : (n len : ℕ) → Spans (trunc_reach n len) len n
+trunc_spans n len = go (nat_lt n len) (n % 4096 == 0) refl refl
+  where
+    r : Bool → Bool → Reach
+    r t u = record { mode = Exclusive; from = min n len / 4096; to = 65537; first = n / 4096; pages = if t && not u then 1 else 0; begin = n; end = n }
+
+    go : (t u : Bool) → nat_lt n len ≡ t → (n % 4096 == 0) ≡ u → Spans (r t u) len n
+    go true true e f = let z : n % 4096 ≡ 0 = grind (arith, nat_tests) in record { within = λ i l. absurd (omega arith); cut = λ p j a b c d. absurd (omega arith) }
+    go true false e f = let z : 0 < n % 4096 = grind (arith, nat_tests) in record { within = λ i l. omega arith; cut = λ p j a b c d. (omega arith, omega arith) }
+    go false u e f = let z : len ≤ n = grind (arith, nat_tests) in record { within = λ i l. absurd (omega arith); cut = λ p j a b. absurd (omega arith) }
+
 -- ---- answers
 
 -- the file of the call has these new bytes
@@ -99,12 +136,22 @@ pub record IsStored (s s2 : State) (call : Call) (len : ℕ) : Type 0 where
   pub word : file_word call ≡ Some name
   pub state : s2 ≡ with_content s name new
   pub stretches : Stretches (reach_of call len) len (length new)
+  pub fits : is_overfull (with_content s name new) ≡ false
+  pub spans : Spans (reach_of call len) len (length new)
+  pub rest : RestStays (reach_of call len) (bytes_in s name) new
 
 stored_is : (s : State) (name new : List ℕ) (reply : Reply) → has_stored (or_refusal s (stored s name new reply)).reply ≡ true → (or_refusal s (stored s name new reply)).state ≡ with_content s name new
 stored_is s name new reply = go (is_overfull (with_content s name new))
   where
     go : (t : Bool) → has_stored (or_refusal s (refuse t NoSpace >>= (λ x. Ok (record { reply = reply; state = with_content s name new })))).reply ≡ true →
         (or_refusal s (refuse t NoSpace >>= (λ x. Ok (record { reply = reply; state = with_content s name new })))).state ≡ with_content s name new
+    go true e = absurd (cc)
+    go false e = refl
+
+stored_fits : (s : State) (name new : List ℕ) (reply : Reply) → has_stored (or_refusal s (stored s name new reply)).reply ≡ true → is_overfull (with_content s name new) ≡ false
+stored_fits s name new reply = go (is_overfull (with_content s name new))
+  where
+    go : (t : Bool) → has_stored (or_refusal s (refuse t NoSpace >>= (λ x. Ok (record { reply = reply; state = with_content s name new })))).reply ≡ true → t ≡ false
     go true e = absurd (cc)
     go false e = refl
 
@@ -117,11 +164,20 @@ writel_stored s name off n call (machine.Ended r0 output used) word reach m fits
   new = Put (bytes_in s name) off output;
   word = word;
   state = stored_is s name (Put (bytes_in s name) off output) (Val r0) e;
-  stretches = subst (λ (r : Reach). Stretches r (length (bytes_in s name)) (length (Put (bytes_in s name) off output))) (sym reach)
-      (write_stretches off n (length (bytes_in s name)) (length (Put (bytes_in s name) off output)) m fits
-      (λ l. subst (λ (k : ℕ). LongAs (length (bytes_in s name)) (off + k) (length (Put (bytes_in s name) off output))) long
-      (put_length (bytes_in s name) output off (subst (λ (k : ℕ). 0 < k) (sym long) l))));
+  stretches = stretches;
+  fits = stored_fits s name (Put (bytes_in s name) off output) (Val r0) e;
+  spans = subst (λ (r : Reach). Spans r (length (bytes_in s name)) (length (Put (bytes_in s name) off output))) (sym reach)
+      (write_spans off n (length (bytes_in s name)) (length (Put (bytes_in s name) off output)) m longer);
+  rest = subst (λ (r : Reach). RestStays r (bytes_in s name) (Put (bytes_in s name) off output)) (sym reach) (write_rest off n (length (bytes_in s name)) (bytes_in s name) output long);
 }
+  where
+    longer : 0 < n → LongAs (length (bytes_in s name)) (off + n) (length (Put (bytes_in s name) off output))
+    longer l = subst (λ (k : ℕ). LongAs (length (bytes_in s name)) (off + k) (length (Put (bytes_in s name) off output))) long
+        (put_length (bytes_in s name) output off (subst (λ (k : ℕ). 0 < k) (sym long) l))
+
+    stretches : Stretches (reach_of call (length (bytes_in s name))) (length (bytes_in s name)) (length (Put (bytes_in s name) off output))
+    stretches = subst (λ (r : Reach). Stretches r (length (bytes_in s name)) (length (Put (bytes_in s name) off output))) (sym reach)
+        (write_stretches off n (length (bytes_in s name)) (length (Put (bytes_in s name) off output)) m fits longer)
 writel_stored s name off n call (machine.AccessTrap a k slot used) word reach m fits long e = absurd (cc)
 writel_stored s name off n call (machine.DepthTrap slot used) word reach m fits long e = absurd (cc)
 writel_stored s name off n call machine.Spent word reach m fits long e = absurd (cc)
@@ -147,6 +203,9 @@ effect_stored s (Write file off bytes) name w m fits e =
       word = refl;
       state = stored_is s file (Put (bytes_in s file) off bytes) Done e;
       stretches = write_stretches off (length bytes) (length (bytes_in s file)) (length (Put (bytes_in s file) off bytes)) (ap (λ (n : List ℕ). is_exclusive (write_reach off (length bytes) (length (bytes_in s n))).mode) same ∙ m) fits (λ l. put_length (bytes_in s file) bytes off l);
+      fits = stored_fits s file (Put (bytes_in s file) off bytes) Done e;
+      spans = write_spans off (length bytes) (length (bytes_in s file)) (length (Put (bytes_in s file) off bytes)) (ap (λ (n : List ℕ). is_exclusive (write_reach off (length bytes) (length (bytes_in s n))).mode) same ∙ m) (λ l. put_length (bytes_in s file) bytes off l);
+      rest = write_rest off (length bytes) (length (bytes_in s file)) (bytes_in s file) bytes refl;
     })
 effect_stored s (Append file bytes) name w m fits e =
     let same : file ≡ name = cc in
@@ -158,6 +217,9 @@ effect_stored s (Append file bytes) name w m fits e =
       word = refl;
       state = stored_is s file (Put (bytes_in s file) len bytes) (At len) e;
       stretches = write_stretches len (length bytes) len (length (Put (bytes_in s file) len bytes)) (ap (λ (n : List ℕ). is_exclusive (write_reach (length (bytes_in s n)) (length bytes) (length (bytes_in s n))).mode) same ∙ m) fits (λ l. put_length (bytes_in s file) bytes len l);
+      fits = stored_fits s file (Put (bytes_in s file) len bytes) (At len) e;
+      spans = write_spans len (length bytes) len (length (Put (bytes_in s file) len bytes)) (ap (λ (n : List ℕ). is_exclusive (write_reach (length (bytes_in s n)) (length bytes) (length (bytes_in s n))).mode) same ∙ m) (λ l. put_length (bytes_in s file) bytes len l);
+      rest = write_rest len (length bytes) len (bytes_in s file) bytes refl;
     })
 effect_stored s (Trunc file n) name w m fits e =
     let same : file ≡ name = cc in
@@ -168,6 +230,9 @@ effect_stored s (Trunc file n) name w m fits e =
       word = refl;
       state = stored_is s file (with_length (bytes_in s file) n) Done e;
       stretches = subst (λ (k : ℕ). Stretches (trunc_reach n (length (bytes_in s file))) (length (bytes_in s file)) k) (sym (with_length_is (bytes_in s file) n)) (trunc_stretches n (length (bytes_in s file)) fits);
+      fits = stored_fits s file (with_length (bytes_in s file) n) Done e;
+      spans = subst (λ (k : ℕ). Spans (trunc_reach n (length (bytes_in s file))) (length (bytes_in s file)) k) (sym (with_length_is (bytes_in s file) n)) (trunc_spans n (length (bytes_in s file)));
+      rest = trunc_rest n (length (bytes_in s file)) (bytes_in s file) (with_length_is (bytes_in s file) n);
     })
 effect_stored s (Writel file off n function fuel param input) name w m fits e =
     let same : file ≡ name = cc in

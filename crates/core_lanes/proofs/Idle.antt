@@ -13,7 +13,7 @@ use Rattle.core_state.specs.Happens.{HoldsNone}
 use Rattle.core_lemmas.proofs.Lanes.{queued_lane, gathered_lane, dies_lane}
 
 -- an option with no value is none
-none_of : {A : Type 0} (o : Option A) → ((x : A) → o ≡ Some x → ⊥) → o ≡ None
+pub none_of : {A : Type 0} (o : Option A) → ((x : A) → o ≡ Some x → ⊥) → o ≡ None
 none_of None h = refl
 none_of (Some x) h = absurd (h x refl)
 

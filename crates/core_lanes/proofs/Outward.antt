@@ -105,7 +105,7 @@ block_within shape names places blocks b h used = go (nat_lt b shape.blocks) ref
     go true e = grind (arith, nat_tests)
     go false e = absurd (used (h.free b (λ id p at. let l = h.have.within id p b at in let k : (b < shape.blocks) → ⊥ = grind (arith, nat_tests) in k l)))
 
-home_is : (o : Option Out) → is_none o ≡ true → o ≡ None
+pub home_is : (o : Option Out) → is_none o ≡ true → o ≡ None
 home_is None e = refl
 home_is (Some x) e = absurd (cc)
 

@@ -74,16 +74,16 @@ in_queue_is (Running w) e = absurd (cc)
 in_queue_is (Reported r) e = absurd (cc)
 
 -- a call that is queued
-record InQueue (o : Option Flight) : Type 0 where
-  call : Flight
-  flies : o ≡ Some call
-  phase : call.phase ≡ Queued
+pub record InQueue (o : Option Flight) : Type 0 where
+  pub call : Flight
+  pub flies : o ≡ Some call
+  pub phase : call.phase ≡ Queued
 
-queued_call_of : (o : Option Flight) → is_queued o ≡ true → InQueue o
+pub queued_call_of : (o : Option Flight) → is_queued o ≡ true → InQueue o
 queued_call_of None e = absurd (cc)
 queued_call_of (Some call) e = record { call = call; flies = refl; phase = in_queue_is call.phase e }
 
-true_of : (t : Bool) (n : ℕ) → n + 1 ≡ one_if t → t ≡ true
+pub true_of : (t : Bool) (n : ℕ) → n + 1 ≡ one_if t → t ≡ true
 true_of true n e = refl
 true_of false n e = absurd (omega arith)
 

@@ -1,5 +1,5 @@
 -- What a change of one call in flight keeps, where its claim stays.
-use Rattle.std.proofs.Common.{◌≡◌, ℕ, ◌+◌, ◌<◌, false, List, Option, Some, None, refl, sym, ap, ◌∙◌, subst, inl, inr, ⊎_elim, arith}
+use Rattle.std.proofs.Common.{◌≡◌, ℕ, ◌+◌, ◌<◌, true, false, List, Option, Some, None, refl, sym, ap, ◌∙◌, subst, inl, inr, ⊎_elim, arith}
 use Rattle.std.specs.Prelude.{◌≢◌, ◌⊎◌}
 use mathlib.Core.Path.{fun_ext}
 use Rattle.dispatcher.specs.declared.side.Side.{Side}
@@ -11,12 +11,13 @@ use Rattle.plain_files.specs.Plain.{State}
 use Rattle.core_state.specs.declared.actor.Actor.{Actor}
 use Rattle.core_state.specs.declared.actor.Actor.TheVariants.{Lane, Worker, Flusher, Closer}
 use Rattle.core_state.specs.Words.{Lists}
-use Rattle.core_state.specs.State.{Page, Shape, Loan, Block, Names, Places, LaneState, Inside, Claim, OnLoan, Phase, Held, Queued, Running, Flight, Errand, ToFill, ToFlush, ToMeta, Out, DieState}
+use Rattle.core_state.specs.State.{Page, Shape, Loan, Block, Names, Places, LaneState, Inside, Claim, OnLoan, Phase, Held, Queued, Running, Reported, Flight, Errand, ToFill, ToFlush, ToMeta, Out, DieState}
 use Rattle.core_state.specs.Contents.{page_of, span_block}
 use Rattle.core_state.specs.Reach.{is_sync}
 use Rattle.core_state.specs.InFlight.{claim_of, claims, IsLentTo, IsLoanOf, Lent, IsRight, InFlight}
 use Rattle.core_state.specs.Frames.{frames_of, used, HasFrameFor, Frames, in_queue, is_queued, AreQueued}
 use Rattle.core_state.specs.Dies.{owner, IsSyncing, MayFlush, MaySync, IsErrand, Dies, AreGathered, IsResult, Gathered}
+use Rattle.core_state.specs.EndEvent.{IsAtEnd, is_reported}
 use Rattle.core_lemmas.proofs.Words.{nothing, same_some, sum_to-put}
 
 -- the claims stay
@@ -208,3 +209,28 @@ queued_same queue lanes calls lane call call2 e same waits h =
     (λ (d : j ≢ lane). is_queued_put calls lane call2 j d) (same_or_not j lane))))
     (λ q. absurd (waits (sym same ∙ q))) (λ q. absurd (waits (sym same ∙ q)))
     (λ w q l x d f p. d (h.one_each l lane w x call f e p (sym same ∙ q))) h
+
+-- ---- a call that ends
+
+-- the calls without that of the lane
+abbrev pub without_call : (ℕ → Option Flight) → ℕ → ℕ → Option Flight
+without_call calls lane = put calls lane None
+
+-- a call that is still there is another lane's, and was there
+pub still_there : (calls : ℕ → Option Flight) (lane l : ℕ) (x : Flight) → without_call calls lane l ≡ Some x → (l ≢ lane) × (calls l ≡ Some x)
+still_there calls lane l x e = ⊎_elim
+    (λ (s : l ≡ lane). absurd (nothing (without_call calls lane l) x (ap (without_call calls lane) s ∙ put-same calls lane None) e))
+    (λ (d : l ≢ lane). (d, sym (put-other calls lane None l d) ∙ e)) (same_or_not l lane)
+
+pub other_there : (calls : ℕ → Option Flight) (lane l : ℕ) (x : Flight) → l ≢ lane → calls l ≡ Some x → without_call calls lane l ≡ Some x
+other_there calls lane l x d e = put-other calls lane None l d ∙ e
+
+-- a call at its end is its lane's
+pub end_owned : (lane : ℕ) (call : Flight) → IsAtEnd call → owner lane call.phase ≡ Some (Lane lane)
+end_owned lane call at = ⊎_elim (λ a. ap (owner lane) a.0) (λ r. go call.phase r) at
+  where
+    go : (phase : Phase) → is_reported phase ≡ true → owner lane phase ≡ Some (Lane lane)
+    go Held r = absurd (cc)
+    go Queued r = absurd (cc)
+    go (Running w) r = absurd (cc)
+    go (Reported result) r = refl

@@ -44,7 +44,7 @@ listed-none b (suc n) row h =
     let z = count_option b (row n) (h n (omega arith)) in
     omega (arith, count-append b (listed_to n row) (option_to_list (row n)))
 
-same_option : (o : Option ℕ) (b : ℕ) → (o ≡ Some b) ⊎ (o ≢ Some b)
+pub same_option : (o : Option ℕ) (b : ℕ) → (o ≡ Some b) ⊎ (o ≢ Some b)
 same_option None b = inr (λ e. cc)
 same_option (Some x) b = ⊎_elim (λ (e : x ≡ b). inl (ap Some e)) (λ (d : x ≢ b). inr (λ e. d (same_some (Some x) x b refl e))) (same_or_not x b)
 
@@ -154,7 +154,7 @@ reach_in Sync len i fits l = absurd (omega arith)
 
 -- ---- the calls in flight
 
-not_both : (m : Mode) → m ≡ Shared → m ≡ Exclusive → ⊥
+pub not_both : (m : Mode) → m ≡ Shared → m ≡ Exclusive → ⊥
 not_both m e f = cc
 
 -- what is found is in the list

@@ -1,13 +1,13 @@
 -- What the plain machine makes of a call in flight depends on the file and the function that it finds, and on no others.
-use Rattle.std.proofs.Common.{◌≡◌, ℕ, Bool, true, false, List, [], ◌∷◌, Some, refl, ⊎_elim}
-use Rattle.std.specs.Prelude.{◌⊎◌, map, option_map, if◌then◌else◌, bytes_eq}
+use Rattle.std.proofs.Common.{◌≡◌, ℕ, Bool, true, false, List, [], ◌∷◌, Option, Some, None, refl, sym, ap, ◌∙◌, ⊎_elim}
+use Rattle.std.specs.Prelude.{◌⊎◌, map, option_map, is_some, if◌then◌else◌, bytes_eq}
 use Rattle.std.specs.List.{find}
 use Rattle.plain_files.specs.declared.calls.Call.{Call}
 use Rattle.plain_files.specs.declared.calls.Call.TheVariants.{Create, OpenFile, Stat, Remove, Read, Write, Append, Trunc, Seal, Load, Unload, Readl, Writel, Sync}
 use Rattle.plain_files.specs.declared.calls.PlainFile.{PlainFile}
 use Rattle.plain_files.specs.Plain as plain_files
 use Rattle.plain_files.specs.Plain.{State, file_of, function_of, early}
-use Rattle.core_state.specs.State.{Page, Shape, Names, Places}
+use Rattle.core_state.specs.State.{Page, Shape, Function, Names, Places}
 use Rattle.core_state.specs.Reach.{is_data, is_sync, file_word, function_word, file_by, function_by}
 use Rattle.core_state.specs.PlainOf.{plain_file, plain_function, plain_of, outcome_of}
 
@@ -21,6 +21,18 @@ find_map {A} {B} f test (x ∷ xs) = go (test (f x)) (find_map f test xs)
     go : (t : Bool) → find test (map f xs) ≡ option_map f (find (λ x. test (f x)) xs) → (if t then Some (f x) else find test (map f xs)) ≡ option_map f (if t then Some x else find (λ x. test (f x)) xs)
     go true ih = refl
     go false ih = ih
+
+pub is_some_map : {A B : Type 0} (f : A → B) (o : Option A) → is_some (option_map f o) ≡ is_some o
+is_some_map f None = refl
+is_some_map f (Some x) = refl
+
+-- where the functions are the same but for their e, a word finds one in both or in neither
+pub function_there : (fs gs : List Function) (word : Option (List ℕ)) → map plain_function gs ≡ map plain_function fs → is_some (function_by gs word) ≡ is_some (function_by fs word)
+function_there fs gs None e = refl
+function_there fs gs (Some name) e =
+    sym (is_some_map plain_function (function_by gs (Some name))) ∙ (ap is_some (sym (find_map plain_function (λ (f : plain_files.Function). bytes_eq f.name name) gs))
+    ∙ (ap (λ (xs : List plain_files.Function). is_some (find (λ (f : plain_files.Function). bytes_eq f.name name) xs)) e
+    ∙ (ap is_some (find_map plain_function (λ (f : plain_files.Function). bytes_eq f.name name) fs) ∙ is_some_map plain_function (function_by fs (Some name)))))
 
 -- the file of a name in the plain state is that of the core
 pub file_seen : (shape : Shape) (names : Names) (places : Places) (pages : ℕ → Page) (name : List ℕ) → file_of name (plain_of shape names places pages).files ≡ option_map (plain_file places pages) (file_by names.files (Some name))

@@ -1,6 +1,7 @@
 -- Sums over numbers, lists of what passes a test, and options.
 use Rattle.std.proofs.Common.{◌≡◌, ℕ, zero, suc, ◌+◌, ◌<◌, ◌≤◌, Bool, true, false, List, [], ◌∷◌, ◌++◌, Option, Some, None, refl, sym, ap, ◌∙◌, subst, ⊎_elim, arith}
-use Rattle.std.specs.Prelude.{◌≢◌}
+use Rattle.std.specs.Prelude.{◌≢◌, ◌⊎◌, nat_lt}
+use Rattle.std.proofs.lemmas.Bool.Decides.{nat_tests}
 use Rattle.index_lists.specs.Words.{put, one_if, count, without, last}
 use Rattle.index_lists.proofs.Counts.{same_or_not, count-without_same, count-without_other, count-last_same, count-last_other, count-push_same, count-push_other}
 use Rattle.index_lists.proofs.Puts.{put-same, put-other}
@@ -11,6 +12,19 @@ nothing o x e f = cc
 
 pub same_some : {A : Type 0} (o : Option A) (x y : A) → o ≡ Some x → o ≡ Some y → x ≡ y
 same_some o x y e f = cc
+
+pub less_or_not : (m n : ℕ) → (m < n) ⊎ (n ≤ m)
+less_or_not m n = grind arith
+
+-- what a test of numbers tells
+pub low : (p n : ℕ) → nat_lt p n ≡ true → p < n
+low p n e = grind (arith, nat_tests)
+
+pub high : (p n : ℕ) → nat_lt p n ≡ false → n ≤ p
+high p n e = grind (arith, nat_tests)
+
+pub is_low : (p n : ℕ) → p < n → nat_lt p n ≡ true
+is_low p n e = grind (arith, nat_tests)
 
 -- ---- sums
 

@@ -34,7 +34,7 @@ same_changed : (blocks : ℕ → Block) (at : Option ℕ) (change : Block → Bl
 same_changed blocks None change h = refl
 same_changed blocks (Some b) change h = contents_put blocks b (change (blocks b)) (h b refl)
 
-taken_content : (lane : ℕ) (x : Block) → content (lent_block lane x) ≡ content x
+pub taken_content : (lane : ℕ) (x : Block) → content (lent_block lane x) ≡ content x
 taken_content lane x = go x.host x.drive x.lent refl refl refl
   where
     go : (o d : Option Page) (l : Option Loan) → x.host ≡ o → x.drive ≡ d → x.lent ≡ l → content (lent_block lane x) ≡ content x

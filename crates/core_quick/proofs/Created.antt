@@ -1,6 +1,6 @@
 -- A file is made, and a function is loaded or taken away: no call in flight meets it.
 use Rattle.std.proofs.Common.{◌≡◌, ℕ, ◌+◌, ◌<◌, Bool, true, false, List, [], ◌∷◌, ◌++◌, Option, Some, None, refl, sym, ap, ◌∙◌, subst, inl, inr, ⊎_elim, arith, get_or}
-use Rattle.std.specs.Prelude.{◌≢◌, ◌⊎◌, nat_lt, map, option_map, is_some, bytes_eq, if◌then◌else◌}
+use Rattle.std.specs.Prelude.{◌≢◌, ◌⊎◌, nat_lt, map, is_some, bytes_eq, if◌then◌else◌}
 use Rattle.std.specs.List.{Contains}
 use Rattle.std.proofs.lemmas.List.{map-append, get_or-replicate}
 use Rattle.std.proofs.lemmas.Slice.Eq.{bytes_eq-Decides}
@@ -19,7 +19,7 @@ use Rattle.core_state.specs.InFlight.{claims}
 use Rattle.core_state.specs.Placed.{AreNamed, HavePlaces, Tails}
 use Rattle.core_state.specs.Coherent.{Coherent}
 use Rattle.core_state.specs.LaneEvents.{IsUnused}
-use Rattle.core_lemmas.proofs.Views.{file_seen}
+use Rattle.core_lemmas.proofs.Views.{file_seen, is_some_map}
 use Rattle.core_quick.proofs.Seen.{files_seen, renamed_keeps}
 use Rattle.core_quick.proofs.Named.{in_none, in_cases, in_append, in_there, in_here, found_some, find_append, find_without, each_map, each_push}
 use Rattle.core_quick.proofs.Renamed.{same_have, same_tails, same_below}
@@ -28,10 +28,6 @@ use Rattle.core_quick.proofs.Unchanged.{functions_of, same_files}
 
 none_some : {A : Type 0} (o : Option A) → is_some o ≡ false → is_some o ≡ true → ⊥
 none_some o e f = cc
-
-is_some_map : {A B : Type 0} (f : A → B) (o : Option A) → is_some (option_map f o) ≡ is_some o
-is_some_map f None = refl
-is_some_map f (Some x) = refl
 
 -- ---- a file is made
 

@@ -1,7 +1,7 @@
 -- What the calls in flight find: their file and their function are there.
 use Rattle.std.proofs.Common.{◌≡◌, ℕ, Bool, true, false, List, Option, Some, None, refl, sym, ap, ◌∙◌, ⊎_elim}
 use Rattle.std.proofs.Common.{arith}
-use Rattle.std.specs.Prelude.{◌==◌, ◌&&◌, option_map, is_some, bytes_eq}
+use Rattle.std.specs.Prelude.{◌==◌, ◌&&◌, is_some, bytes_eq}
 use Rattle.std.proofs.lemmas.Slice.Eq.{bytes_eq-Decides}
 use Rattle.std.proofs.lemmas.Bool.Decides.{nat_tests}
 use Rattle.core_state.specs.LaneEvents.{IsUnheld}
@@ -15,7 +15,7 @@ use Rattle.core_state.specs.Reach.{is_data, is_lambda, is_sync, file_word, funct
 use Rattle.core_state.specs.PlainOf.{plain_file, plain_function, plain}
 use Rattle.core_state.specs.InFlight.{claims}
 use Rattle.core_state.specs.Coherent.{Coherent}
-use Rattle.core_lemmas.proofs.Views.{file_seen, function_seen}
+use Rattle.core_lemmas.proofs.Views.{file_seen, function_seen, is_some_map}
 
 -- the file that a call in flight is about
 pub record FliesOn (c : Core) (a : Claim) (name : List ℕ) : Type 0 where
@@ -60,10 +60,6 @@ flies_on c lane a name h e w =
   where
     apart : is_sync a.request.call ≡ true → is_sync a.request.call ≡ false → ⊥
     apart s n = cc
-
-is_some_map : {A B : Type 0} (f : A → B) (o : Option A) → is_some (option_map f o) ≡ is_some o
-is_some_map f None = refl
-is_some_map f (Some x) = refl
 
 -- so the plain state has it
 pub file_flies : (c : Core) (lane : ℕ) (a : Claim) (name : List ℕ) → Coherent c → claims c.calls lane ≡ Some a → file_word a.request.call ≡ Some name → is_some (file_of name (plain c).files) ≡ true

@@ -9,4 +9,5 @@ pub mod Sealed
 pub mod Released
 pub mod Releasing
 pub mod Removed
+pub mod Moves
 pub mod Quick

@@ -1,6 +1,6 @@
 -- Quick keeps a core coherent: by the call, and by what the plain machine makes of it.
-use Rattle.std.proofs.Common.{◌≡◌, ℕ, ◌+◌, Bool, true, false, List, [], ◌∷◌, ◌++◌, length, Option, Some, None, refl, sym, ap, ◌∙◌, subst, inl, inr}
-use Rattle.std.specs.Prelude.{◌⊎◌, nat_le, not, option_map, is_some, is_none, Result, Ok, Err, if◌then◌else◌}
+use Rattle.std.proofs.Common.{◌≡◌, ℕ, ◌+◌, Bool, true, false, List, length, Option, Some, None, refl, sym, ap, ◌∙◌, subst, inl}
+use Rattle.std.specs.Prelude.{◌⊎◌, nat_le, not, is_some, Result, Ok, Err}
 use Rattle.std.specs.List.{Contains}
 use Rattle.name_table.specs.Name.{is_name}
 use Rattle.index_lists.specs.Words.{put}
@@ -8,34 +8,28 @@ use Rattle.sbpf_insn.specs.declared.insn.Insn.{Insn}
 use Rattle.plain_files.specs.declared.calls.Call.{Call}
 use Rattle.plain_files.specs.declared.calls.Call.TheVariants.{Create, OpenFile, Stat, Remove, Read, Write, Append, Trunc, Seal, Load, Unload, Readl, Writel, Sync}
 use Rattle.plain_files.specs.declared.calls.Reply.{Reply}
-use Rattle.plain_files.specs.declared.calls.Reply.TheVariants.{Id, Done, BadName, Exists, Full, FnFull, NoFile}
+use Rattle.plain_files.specs.declared.calls.Reply.TheVariants.{Id, Done, BadName, Exists, Full}
 use Rattle.plain_files.specs.declared.calls.Request.{Request}
 use Rattle.plain_files.specs.Lists.{without}
 use Rattle.plain_files.specs.Steps.{◌>>=◌, refuse}
-use Rattle.plain_files.specs.Plain.{State, early, answer, answer_after, or_refusal, file_of, function_of, is_file, is_full, with_file, with_sealed, done_with_functions, accepted_code, has_no_file}
+use Rattle.plain_files.specs.Plain.{State, early, answer, answer_after, or_refusal, file_of, function_of, is_file, is_full, with_file, with_sealed, accepted_code}
 use Rattle.core_state.specs.State.{Inside, File, Core}
-use Rattle.core_state.specs.Contents.{contents}
 use Rattle.core_state.specs.Reach.{file_word, file_by, file_for}
-use Rattle.core_state.specs.PlainOf.{plain_file, plain, bytes_by_id}
+use Rattle.core_state.specs.PlainOf.{plain, bytes_by_id}
 use Rattle.core_state.specs.InFlight.{claims}
 use Rattle.core_state.specs.Coherent.{Coherent}
 use Rattle.core_state.specs.LaneEvents.{replied, is_quick, is_unsealed, IsUnheld, IsUnused, IsClear, quick, MayQuick}
 use Rattle.core_state.specs.Resizing.{follows}
 use Rattle.core_lemmas.proofs.Spans.{file_in}
-use Rattle.core_lemmas.proofs.Views.{file_seen}
 use Rattle.core_lanes.proofs.Idle.{idle_keeps}
 use Rattle.core_quick.proofs.Renamed.{follows_is}
 use Rattle.core_quick.proofs.Unchanged.{unchanged_keeps}
 use Rattle.core_quick.proofs.Created.{created_keeps, loaded_keeps, unloaded_keeps}
 use Rattle.core_quick.proofs.Sealed.{sealed_keeps, sealed_len}
 use Rattle.core_quick.proofs.Removed.{removed_keeps}
+use Rattle.core_quick.proofs.Moves.{early_stays, found_of, must_be, loaded_state, quick_moves}
 
 -- ---- the parts of an answer
-
--- an early refusal leaves the state
-early_stays : (o : Option Reply) (s : State) (call : Call) → is_some o ≡ true → (answer_after o s call).state ≡ s
-early_stays None s call e = absurd (cc)
-early_stays (Some r) s call e = refl
 
 -- a file that a call found is one of the core's
 there_of : (c : Core) (call : Call) (f : File) → file_for c.names.files call ≡ Some f → Contains c.names.files f
@@ -44,18 +38,6 @@ there_of c call f e = file_in c.names.files (file_word call) f e
 -- an answer that leaves the state
 stays : (c : Core) (call : Call) (s2 : State) → s2 ≡ plain c → Coherent c → Coherent (follows c (file_for c.names.files call) s2)
 stays c call s2 e h = unchanged_keeps c (file_for c.names.files call) s2 e (there_of c call) h
-
--- where no early refusal holds, the file is there
-found_of : (c : Core) (name : List ℕ) (r : Option Reply) → (if has_no_file (plain c) name then Some NoFile else r) ≡ None → (f : File) × (file_by c.names.files (Some name) ≡ Some f)
-found_of c name r e = go (file_by c.names.files (Some name)) refl
-  where
-    go : (o : Option File) → file_by c.names.files (Some name) ≡ o → (f : File) × (file_by c.names.files (Some name) ≡ Some f)
-    go (Some f) q = (f, q)
-    go None q =
-        let n : file_of name (plain c).files ≡ None = file_seen c.shape c.names c.places (contents c.blocks) name ∙ ap (option_map (plain_file c.places (contents c.blocks))) q in
-        let t : has_no_file (plain c) name ≡ true = ap is_none n in
-        let z : Some NoFile ≡ None = ap (λ (b : Bool). if b then Some NoFile else r) (sym t) ∙ e in
-        absurd (cc)
 
 -- ---- by the call
 
@@ -68,12 +50,8 @@ create_keeps c name false true f e moves h = unchanged_keeps c None (plain c) re
 create_keeps c name false false true e moves h = unchanged_keeps c None (plain c) refl (λ g q. absurd (cc)) h
 create_keeps c name false false false e moves h = created_keeps c name e moves h
 
--- the code is accepted, or not
-abbrev loading : State → List ℕ → Bool → Result (List Insn) Reply → Bool → Bool → State
-loading s name a code b f = (or_refusal s (refuse a BadName >>= (λ u. code >>= (λ code. refuse b Exists >>= (λ u. refuse f FnFull >>= (λ u. Ok (done_with_functions s (s.functions ++ record { name = name; code = code } ∷ [])))))))).state
-
 load_keeps : (c : Core) (name : List ℕ) (a : Bool) (code : Result (List Insn) Reply) (b f : Bool) → is_some (function_of name (plain c).functions) ≡ b →
-    plain (follows c None (loading (plain c) name a code b f)) ≡ loading (plain c) name a code b f → Coherent c → Coherent (follows c None (loading (plain c) name a code b f))
+    plain (follows c None (loaded_state (plain c) name a code b f)) ≡ loaded_state (plain c) name a code b f → Coherent c → Coherent (follows c None (loaded_state (plain c) name a code b f))
 load_keeps c name true code b f e moves h = unchanged_keeps c None (plain c) refl (λ g q. absurd (cc)) h
 load_keeps c name false (Err r) b f e moves h = unchanged_keeps c None (plain c) refl (λ g q. absurd (cc)) h
 load_keeps c name false (Ok code) true f e moves h = unchanged_keeps c None (plain c) refl (λ g q. absurd (cc)) h
@@ -86,10 +64,6 @@ asks_keep c call same h = stays c call (answer (plain c) call).state (same (earl
 
 refused_keeps : (c : Core) (call : Call) → is_some (early (plain c) call) ≡ true → Coherent c → Coherent (follows c (file_for c.names.files call) (answer (plain c) call).state)
 refused_keeps c call e h = stays c call (answer (plain c) call).state (early_stays (early (plain c) call) (plain c) call e) h
-
-must_be : (t : Bool) → (false ≡ true) ⊎ (t ≡ true) → t ≡ true
-must_be t (inl e) = absurd (cc)
-must_be t (inr e) = e
 
 remove_keeps : (c : Core) (name : List ℕ) → Coherent c → ((answer (plain c) (Remove name)).reply ≡ Done → IsUnheld (claims c.calls) (file_for c.names.files (Remove name))) →
     plain (follows c (file_for c.names.files (Remove name)) (answer (plain c) (Remove name)).state) ≡ (answer (plain c) (Remove name)).state → Coherent (follows c (file_for c.names.files (Remove name)) (answer (plain c) (Remove name)).state)
@@ -170,4 +144,4 @@ finish c lane (Some f) s2 none inside h = idle_keeps (follows c (Some f) s2) lan
 pub quick_keeps : (c : Core) (lane : ℕ) (request : Request) (reply : Reply) → Coherent c → MayQuick c lane request reply → Coherent (quick c lane request.call)
 quick_keeps c lane request reply h may =
     finish c lane (file_for c.names.files request.call) (answer (plain c) request.call).state may.ready.idle.idle may.ready.idle.inside
-    (quick_follows c request.call reply h may.reply_is may.kind may.clear may.moves)
+    (quick_follows c request.call reply h may.reply_is may.kind may.clear (quick_moves c lane request.call h may.kind))

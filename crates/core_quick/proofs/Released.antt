@@ -13,13 +13,10 @@ use Rattle.core_state.specs.Contents.{IsBlank, content}
 use Rattle.core_state.specs.Sound.{HasCopies, IsKept, IsInHand}
 use Rattle.core_state.specs.Dies.{IsFlush}
 use Rattle.core_state.specs.Resizing.{page_between, new_places, renewed, renewed_in}
-use Rattle.core_lemmas.proofs.Words.{nothing, same_some}
+use Rattle.core_lemmas.proofs.Words.{nothing}
+use Rattle.core_lemmas.proofs.Spans.{same_option}
 
 -- ---- the list of the blocks that go
-
-same_option : (o : Option ℕ) (b : ℕ) → (o ≡ Some b) ⊎ (o ≢ Some b)
-same_option None b = inr (λ e. cc)
-same_option (Some x) b = ⊎_elim (λ (e : x ≡ b). inl (ap Some e)) (λ (d : x ≢ b). inr (λ e. d (same_some (Some x) x b refl e))) (same_or_not x b)
 
 count_option : (b : ℕ) (o : Option ℕ) → o ≢ Some b → count b (option_to_list o) ≡ 0
 count_option b None n = count-nil b

@@ -130,14 +130,41 @@ append_none : (xs : List ℕ) → xs ++ [] ≡ xs
 append_none [] = refl
 append_none (x ∷ xs) = ap (λ ys. x ∷ ys) (append_none xs)
 
+-- the plain state without the file
+abbrev pub without_file : Core → List ℕ → State
+without_file c name = record (plain c) { files = without (is_file name) (plain c).files }
+
+left_in : (c : Core) (name : List ℕ) (f : File) → file_by c.names.files (Some name) ≡ Some f → Coherent c → (f2 : File) → Contains (names_like (without_file c name) c.names).files f2 → IsLeft c.names.files f.id f2
+left_in c name f found h = left_back c.places (contents c.blocks) c.names name f h.placed.named found
+
+-- a file that is left has another id
+pub left_apart : (c : Core) (name : List ℕ) (f : File) → file_by c.names.files (Some name) ≡ Some f → Coherent c → (x : PlainFile) → Contains (without_file c name).files x → x.id ≢ f.id
+left_apart c name f found h x i = (left_in c name f found h (file_like x) (in_mapped file_like (without_file c name).files x i)).other
+
+-- the file loses all its pages, and gets none
+pub removed_is : (c : Core) (name : List ℕ) (f : File) → file_by c.names.files (Some name) ≡ Some f → Coherent c →
+    follows c (Some f) (without_file c name) ≡ released c f.id (Pages f.len) 0 (names_like (without_file c name) c.names)
+removed_is c name f found h =
+    ap (λ (bytes : List ℕ). record (resized c f.id (Pages f.len) (Pages (length bytes))) { names = names2 }) no_bytes
+    ∙ (ap (λ (fresh : List ℕ). record (exchanged c f.id (gone_of c f.id (Pages f.len) 0) fresh (Pages f.len) 0) { names = names2 }) nothing_new
+    ∙ ap (λ (all : List ℕ). record (released c f.id (Pages f.len) 0 names2) { blocks = renewed_in all c.blocks }) (append_none (gone_of c f.id (Pages f.len) 0)))
+  where
+    names2 : Names
+    names2 = names_like (without_file c name) c.names
+
+    no_bytes : bytes_by_id (without_file c name) f.id ≡ []
+    no_bytes = ap bytes_or_none (none_by_id (without_file c name).files f.id (left_apart c name f found h))
+
+    nothing_new : take (0 - Pages f.len) (free_blocks c.shape c.names.files c.places) ≡ []
+    nothing_new = let e : 0 - Pages f.len ≡ 0 = omega arith in ap (λ (k : ℕ). take k (free_blocks c.shape c.names.files c.places)) e
+
 pub removed_keeps : (c : Core) (name : List ℕ) (f : File) → file_by c.names.files (Some name) ≡ Some f → IsUnheld (claims c.calls) (Some f) →
-    plain (follows c (Some f) (record (plain c) { files = without (is_file name) (plain c).files })) ≡ record (plain c) { files = without (is_file name) (plain c).files } → Coherent c →
-    Coherent (follows c (Some f) (record (plain c) { files = without (is_file name) (plain c).files }))
+    plain (follows c (Some f) (without_file c name)) ≡ without_file c name → Coherent c → Coherent (follows c (Some f) (without_file c name))
 removed_keeps c name f found unheld moves h =
     subst Coherent (sym same) (released_keeps c f.id (Pages f.len) 0 s2 releasable named have tails finds (ap plain (sym same) ∙ moves) h)
   where
     s2 : State
-    s2 = record (plain c) { files = without (is_file name) (plain c).files }
+    s2 = without_file c name
 
     names2 : Names
     names2 = names_like s2 c.names
@@ -146,19 +173,10 @@ removed_keeps c name f found unheld moves h =
     there = file_in c.names.files (Some name) f found
 
     left : (f2 : File) → Contains names2.files f2 → IsLeft c.names.files f.id f2
-    left = left_back c.places (contents c.blocks) c.names name f h.placed.named found
-
-    no_bytes : bytes_by_id s2 f.id ≡ []
-    no_bytes = ap bytes_or_none (none_by_id s2.files f.id (λ x i e. (left (file_like x) (in_mapped file_like s2.files x i)).other e))
+    left = left_in c name f found h
 
     same : follows c (Some f) s2 ≡ released c f.id (Pages f.len) 0 names2
-    same =
-        ap (λ (bytes : List ℕ). record (resized c f.id (Pages f.len) (Pages (length bytes))) { names = names2 }) no_bytes
-        ∙ (ap (λ (fresh : List ℕ). record (exchanged c f.id (gone_of c f.id (Pages f.len) 0) fresh (Pages f.len) 0) { names = names2 }) nothing_new
-        ∙ ap (λ (all : List ℕ). record (released c f.id (Pages f.len) 0 names2) { blocks = renewed_in all c.blocks }) (append_none (gone_of c f.id (Pages f.len) 0)))
-      where
-        nothing_new : take (0 - Pages f.len) (free_blocks c.shape c.names.files c.places) ≡ []
-        nothing_new = let e : 0 - Pages f.len ≡ 0 = omega arith in ap (λ (k : ℕ). take k (free_blocks c.shape c.names.files c.places)) e
+    same = removed_is c name f found h
 
     releasable : IsReleasable c f.id (Pages f.len) 0
     releasable = record { less = omega arith; exact = h.placed.have.exact f there; idle = λ lane x e i l. inl (λ s. meets lane x e i l s) }

@@ -34,7 +34,7 @@ changed_none {A} test change (y ∷ xs) x e s = go (test y) (changed_none test c
     go false ih f = ap (λ (zs : List A). y ∷ zs) (ih f s)
 
 -- what the changed list has, and what it keeps
-from_changed : {A : Type 0} (test : A → Bool) (change : A → A) (xs : List A) (y : A) → Contains (with_changed test change xs) y → (x : A) × Contains xs x × ((y ≡ x) ⊎ (y ≡ change x))
+pub from_changed : {A : Type 0} (test : A → Bool) (change : A → A) (xs : List A) (y : A) → Contains (with_changed test change xs) y → (x : A) × Contains xs x × ((y ≡ x) ⊎ (y ≡ change x))
 from_changed test change [] y h = absurd (in_none y h)
 from_changed {A} test change (x ∷ xs) y h = go (test x) (from_changed test change xs y) h
   where
@@ -83,7 +83,7 @@ map_twice g f (x ∷ xs) = ap (λ ys. g (f x) ∷ ys) (map_twice g f xs)
 
 -- ---- the files, of which one is sealed
 
-abbrev sealing : PlainFile → PlainFile
+abbrev pub sealing : PlainFile → PlainFile
 sealing f = record f { sealed = true }
 
 sealed_files : (places : Places) (pages : ℕ → Page) (names : Names) (name : List ℕ) → SameFiles names.files (map file_like (with_sealed name (map (plain_file places pages) names.files)))

@@ -13,7 +13,7 @@ use Rattle.core_state.specs.InFlight.{claim_of, claims, Locked, InFlight}
 use Rattle.core_state.specs.Placed.{AreNamed, HavePlaces, Tails}
 use Rattle.core_state.specs.Dies.{IsResult, Gathered}
 use Rattle.core_state.specs.Coherent.{Coherent}
-use Rattle.core_lemmas.proofs.Views.{find_map, file_seen, function_seen, FindsSame, early_same, outcome_same}
+use Rattle.core_lemmas.proofs.Views.{find_map, file_seen, function_seen, FindsSame, early_same, outcome_same, is_some_map}
 
 -- ---- a file and its view
 
@@ -47,10 +47,6 @@ file_kept shape names places pages s2 call same = go (file_word call) refl
     go (Some name) e =
         find_map file_like (λ (f : File). bytes_eq f.name name) s2.files
         ∙ (ap (option_map file_like) (sym (same.file name e)) ∙ (ap (option_map file_like) (file_seen shape names places pages name) ∙ option_same places pages (file_by names.files (Some name))))
-
-is_some_map : {A B : Type 0} (f : A → B) (o : Option A) → is_some (option_map f o) ≡ is_some o
-is_some_map f None = refl
-is_some_map f (Some x) = refl
 
 pub function_kept : (shape : Shape) (names : Names) (places : Places) (pages : ℕ → Page) (s2 : State) (call : Call) → FindsSame (plain_of shape names places pages) s2 call → is_some (function_for (names_like s2 names).functions call) ≡ is_some (function_for names.functions call)
 function_kept shape names places pages s2 call same = go (function_word call) refl

@@ -35,12 +35,12 @@ named_same shape names places pages h =
       ids_below = same_below names (names_like (plain_of shape names places pages) names) (same_files names.files _ e) refl h.ids_below;
     }
 
-functions_back : (old : List Function) (functions : List plain_files.Function) → map plain_function (map (function_like old) functions) ≡ functions
+pub functions_back : (old : List Function) (functions : List plain_files.Function) → map plain_function (map (function_like old) functions) ≡ functions
 functions_back old [] = refl
 functions_back old (f ∷ fs) = ap (λ gs. f ∷ gs) (functions_back old fs)
 
 -- the names of the core's own plain state leave it as it is
-own_plain : (c : Core) → plain (record c { names = names_like (plain c) c.names }) ≡ plain c
+pub own_plain : (c : Core) → plain (record c { names = names_like (plain c) c.names }) ≡ plain c
 own_plain c =
     let a = ap (map (plain_file c.places (contents c.blocks))) (files_seen c.places (contents c.blocks) c.names.files) in
     let b = functions_back c.names.functions (map plain_function c.names.functions) in

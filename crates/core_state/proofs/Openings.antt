@@ -13,7 +13,7 @@ use Rattle.core_state.specs.Frames.{frames_of}
 use Rattle.core_state.specs.Coherent.{Coherent}
 use Rattle.core_state.specs.Opening.{Image, IsWhole, opening_block, opening_core}
 
-zero_page_whole : length zero_page ≡ 4096
+pub zero_page_whole : length zero_page ≡ 4096
 unfolding zero_page
 zero_page_whole = length-replicate {A = ℕ} 4096 0
 

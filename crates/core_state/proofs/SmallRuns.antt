@@ -1,8 +1,7 @@
 -- The small run happens.
-use Rattle.std.proofs.Common.{◌≡◌, ℕ, ◌<◌, true, false, [], length, Option, Some, None, refl, sym, ap, ◌∙◌, subst, arith, inl, inr, lit≤}
+use Rattle.std.proofs.Common.{◌≡◌, ℕ, ◌<◌, true, false, [], Option, Some, None, refl, sym, ap, ◌∙◌, subst, arith, inl, inr, lit≤}
 use Rattle.std.specs.Prelude.{is_some}
 use Rattle.std.proofs.lemmas.Bool.Decides.{nat_tests}
-use Rattle.std.proofs.lemmas.List.{length-replicate}
 use Rattle.page_base.specs.Bytes.{zero_page}
 use Rattle.index_lists.specs.Words.{put}
 use Rattle.core_state.specs.Words.{from_fn, sum_to}
@@ -18,7 +17,7 @@ use Rattle.std.specs.List.{Contains}
 use Rattle.dispatcher.specs.declared.side.Place.TheVariants.{Auto}
 use Rattle.core_state.specs.Coherent.{Coherent}
 use Rattle.core_state.specs.Opening.{IsWhole}
-use Rattle.core_state.proofs.Openings.{opening_coherent}
+use Rattle.core_state.proofs.Openings.{opening_coherent, zero_page_whole}
 use Rattle.core_state.specs.SmallRun.{small_image, small_core, small_events}
 
 nothing : (out : Out) → None ≡ Some out → ⊥
@@ -63,10 +62,6 @@ no_pages lane call l x none e i h =
     let k : x.claim.reach.pages ≡ 0 = ap (λ (f : Flight). f.claim.reach.pages) (only_call lane call l x e) ∙ none in
     omega arith
 
-zero_page_whole : length zero_page ≡ 4096
-unfolding zero_page
-zero_page_whole = length-replicate {A = ℕ} 4096 0
-
 none_listed : (f : File) → Contains [] f → ⊥
 none_listed f h = let l = h.1 in omega arith
 
@@ -80,7 +75,7 @@ small_run = (
       record {
         hands = λ t die out e q. nothing out e;
         closing = λ e. absurd (not_closer _ e);
-        may = record { ready = record { idle = record { within = omega arith; inside = refl; idle = refl }; unmarked = refl; awaited = tt }; reply_is = refl; moves = refl; kind = inl refl; clear = tt };
+        may = record { ready = record { idle = record { within = omega arith; inside = refl; idle = refl }; unmarked = refl; awaited = tt }; reply_is = refl; kind = inl refl; clear = tt };
         leaves = refl;
       },
       (

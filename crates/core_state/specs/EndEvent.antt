@@ -146,12 +146,11 @@ is_reported (Reported result) = true
 abbrev pub IsAtEnd : Flight → Type 0
 IsAtEnd call = ((call.phase ≡ Held) × (call.claim.side ≡ Host)) ⊎ (is_reported call.phase ≡ true)
 
--- without a mark all is gathered, all meta pages of a `sync` are written, and the reply and the plain state are Answer's
-pub record EndsWell (c : Core) (lane : ℕ) (call : Flight) (reply : Reply) : Type 0 where
+-- without a mark all is gathered, all meta pages of a `sync` are written, and the reply is Answer's
+pub record EndsWell (c : Core) (call : Flight) (reply : Reply) : Type 0 where
   pub all : HasGathered call
   pub synced : is_sync call.claim.request.call ≡ true → call.meta ≡ meta_pages c.shape.blocks
   pub reply_is : reply ≡ (answer (plain c) call.claim.request.call).reply
-  pub moves : plain (ended_of c lane call reply) ≡ (answer (plain c) call.claim.request.call).state
 
 pub record MayEnd (c : Core) (lane : ℕ) (request : Request) (reply : Reply) : Type 0 where
   pub call : Flight
@@ -159,4 +158,4 @@ pub record MayEnd (c : Core) (lane : ℕ) (request : Request) (reply : Reply) : 
   pub request_is : request ≡ call.claim.request
   pub at_end : IsAtEnd call
   pub marked : (c.lanes lane).mark ≡ true → reply ≡ Fault
-  pub unmarked : (c.lanes lane).mark ≡ false → EndsWell c lane call reply
+  pub unmarked : (c.lanes lane).mark ≡ false → EndsWell c call reply

@@ -1,7 +1,7 @@
 -- What may happen in a core, and what it leaves: Event and CoreRun. This project's own.
 --
 -- Each event's effect is a function of the core and the event, so a core and a list of events determine the core that they lead to.
--- That the plain state moves as the plain machine says is a condition of Quick and End here (`moves`).
+-- No condition speaks of the plain state after it: that it moves as the plain machine says is a law of the core's.
 use Rattle.std.specs.Prelude.{◌≡◌, ◌≢◌, ◌<◌, ℕ, Bool, true, false, List, [], ◌∷◌, Some, None}
 use Rattle.core_state.specs.declared.actor.Actor.{Actor}
 use Rattle.core_state.specs.declared.actor.Actor.TheVariants.{Lane, Worker, Closer}

@@ -109,7 +109,6 @@ quick c lane call =
 pub record MayQuick (c : Core) (lane : ℕ) (request : Request) (reply : Reply) : Type 0 where
   pub ready : IsReady c lane request
   pub reply_is : reply ≡ (answer (plain c) request.call).reply
-  pub moves : plain (quick c lane request.call) ≡ (answer (plain c) request.call).state
   pub kind : (is_quick request.call ≡ true) ⊎ (is_some (early (plain c) request.call) ≡ true)
   pub clear : IsClear c request.call reply
 

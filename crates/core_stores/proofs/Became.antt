@@ -15,24 +15,14 @@ use Rattle.core_state.specs.PlainOf.{bytes_by_id, page_at}
 use Rattle.core_state.specs.Coherent.{Coherent}
 use Rattle.core_state.specs.Resizing.{blocks_between, new_places, renewed}
 use Rattle.core_state.specs.EndEvent.{installed, installed_at}
-use Rattle.core_lemmas.proofs.Words.{same_some}
+use Rattle.core_lemmas.proofs.Words.{same_some, low, high, is_low}
 use Rattle.core_quick.proofs.Released.{listed_at, in_of, out_of}
 use Rattle.core_hold.proofs.Moves.{not_fresh}
 use Rattle.core_hold.proofs.Quicks.{other_place}
 use Rattle.core_hold.proofs.Spanning.{own_place}
-use Rattle.core_hold.proofs.Storing.{IsStoring}
-use Rattle.core_stores.proofs.Answers.{Spans}
+use Rattle.core_hold.proofs.Stores.{Spans}
 use Rattle.core_stores.proofs.Free.{listed_there}
-use Rattle.core_stores.proofs.Others.{still_has, fresh_of, places_of, moved_of, spanned_of}
-
-low : (p n : ℕ) → nat_lt p n ≡ true → p < n
-low p n e = grind (arith, nat_tests)
-
-high : (p n : ℕ) → nat_lt p n ≡ false → n ≤ p
-high p n e = grind (arith, nat_tests)
-
-is_low : (p n : ℕ) → p < n → nat_lt p n ≡ true
-is_low p n e = grind (arith, nat_tests)
+use Rattle.core_hold.proofs.Others.{IsStoring, still_has, fresh_of, places_of, moved_of, spanned_of}
 
 -- ---- places
 

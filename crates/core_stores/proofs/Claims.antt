@@ -1,43 +1,38 @@
 -- The claims of the other calls in flight are as they were, where a call that stores ends.
-use Rattle.std.proofs.Common.{◌≡◌, ℕ, ◌+◌, ◌<◌, ◌≤◌, false, List, [], ◌∷◌, length, Option, Some, None, refl, sym, ap, ◌∙◌, subst, ⊎_elim, arith}
+use Rattle.std.proofs.Common.{◌≡◌, ℕ, ◌+◌, ◌<◌, ◌≤◌, false, List, [], length, Option, Some, None, refl, sym, ap, ◌∙◌, subst, ⊎_elim, arith}
 use Rattle.std.specs.Prelude.{◌≢◌, ◌^◌, nat_lt, map, option_map, unwrap_or, is_some, is_none, bytes_eq}
-use Rattle.std.specs.List.{find}
 use Rattle.std.proofs.lemmas.Bool.Decides.{nat_tests}
 use Rattle.page_base.specs.Bytes.{Pages}
 use Rattle.index_lists.proofs.Counts.{same_or_not}
 use Rattle.plain_files.specs.declared.calls.Call.{Call}
 use Rattle.plain_files.specs.declared.calls.Call.TheVariants.{Write, Append, Trunc, Writel}
 use Rattle.plain_files.specs.declared.calls.PlainFile.{PlainFile}
-use Rattle.plain_files.specs.Plain as plain_files
-use Rattle.plain_files.specs.Plain.{State, file_of, file_in, bytes_in, end_of, early}
-use Rattle.core_state.specs.State.{Page, File, Function, Names, Places, Reach, Claim, Flight, Core}
+use Rattle.plain_files.specs.Plain.{State, file_of, bytes_in, end_of}
+use Rattle.core_state.specs.State.{Page, File, Names, Places, Reach, Claim, Flight, Core}
 use Rattle.core_state.specs.Contents.{contents}
-use Rattle.core_state.specs.Reach.{file_word, function_word, file_by, function_by, file_for, id_or_none, len_or_none, write_reach, reach_of, claim_on, claim_for}
-use Rattle.core_state.specs.PlainOf.{plain_file, plain_function, plain_of, plain, file_page, outcome_of, used_of, fuel_of, file_like, function_like, names_like}
+use Rattle.core_state.specs.Reach.{file_word, function_word, file_by, file_for, id_or_none, len_or_none, write_reach, reach_of, claim_on, claim_for}
+use Rattle.core_state.specs.PlainOf.{plain_file, plain_function, plain_of, plain, file_page, outcome_of, used_of, fuel_of, file_like, names_like}
 use Rattle.core_state.specs.InFlight.{claim_of, AreThere, IsRight}
 use Rattle.core_state.specs.Coherent.{Coherent}
 use Rattle.core_state.specs.EndEvent.{learnt_by}
 use Rattle.core_lemmas.proofs.Spans.{file_in as file_in_list}
-use Rattle.core_lemmas.proofs.Views.{find_map, file_seen}
+use Rattle.core_lemmas.proofs.Views.{find_map, file_seen, is_some_map, function_there}
+use Rattle.core_lemmas.proofs.Words.{less_or_not}
 use Rattle.core_quick.proofs.Seen.{length_bytes}
 use Rattle.core_quick.proofs.Named.{one_of_id}
+use Rattle.core_quick.proofs.Unchanged.{functions_back}
 use Rattle.core_hold.proofs.Reaches.{Apart}
-use Rattle.core_hold.proofs.Storing.{IsStoring}
 use Rattle.core_ends.proofs.Plainly.{learnt_names}
-use Rattle.core_stores.proofs.Answers.{end_fits}
-use Rattle.core_stores.proofs.Reached.{less_or_not, reach_same, append_empty}
+use Rattle.core_hold.proofs.Stores.{end_fits}
+use Rattle.core_stores.proofs.Reached.{reach_same, append_empty}
 use Rattle.core_stores.proofs.Named.{relen, own_relen, other_relen, files_relen}
-use Rattle.core_stores.proofs.Others.{there, by_name, apart_of, stretches_of, most_of}
+use Rattle.core_hold.proofs.Others.{IsStoring, there, by_name, apart_of, stretches_of, most_of}
 use Rattle.core_stores.proofs.Runs.{FindsNear}
 
 -- ---- names
 
 abbrev pub names_after : Core → Flight → State → Names
 names_after c call s2 = learnt_by (plain c) call.claim (names_like s2 c.names)
-
-functions_back : (old : List Function) (functions : List plain_files.Function) → map plain_function (map (function_like old) functions) ≡ functions
-functions_back old [] = refl
-functions_back old (f ∷ fs) = ap (λ gs. f ∷ gs) (functions_back old fs)
 
 pub functions_after : (c : Core) (lane : ℕ) (call : Flight) (f : File) (s2 : State) → IsStoring c lane call f s2 → map plain_function (names_after c call s2).functions ≡ map plain_function c.names.functions
 functions_after c lane call f s2 g =
@@ -52,17 +47,6 @@ files_after c lane call f s2 h g =
 pub found_after : (c : Core) (lane : ℕ) (call : Flight) (f : File) (s2 : State) → Coherent c → (g : IsStoring c lane call f s2) → (word : Option (List ℕ)) → file_by (names_after c call s2).files word ≡ option_map (relen f.id (length g.stored.new)) (file_by c.names.files word)
 found_after c lane call f s2 h g None = refl
 found_after c lane call f s2 h g (Some name) = ap (λ (fs : List File). file_by fs (Some name)) (files_after c lane call f s2 h g) ∙ find_map (relen f.id (length g.stored.new)) (λ (x : File). bytes_eq x.name name) c.names.files
-
-is_some_map : {A B : Type 0} (f : A → B) (o : Option A) → is_some (option_map f o) ≡ is_some o
-is_some_map f None = refl
-is_some_map f (Some x) = refl
-
-function_there : (fs gs : List Function) (word : Option (List ℕ)) → map plain_function gs ≡ map plain_function fs → is_some (function_by gs word) ≡ is_some (function_by fs word)
-function_there fs gs None e = refl
-function_there fs gs (Some name) e =
-    sym (is_some_map plain_function (function_by gs (Some name))) ∙ (ap is_some (sym (find_map plain_function (λ (f : plain_files.Function). bytes_eq f.name name) gs))
-    ∙ (ap (λ (xs : List plain_files.Function). is_some (find (λ (f : plain_files.Function). bytes_eq f.name name) xs)) e
-    ∙ (ap is_some (find_map plain_function (λ (f : plain_files.Function). bytes_eq f.name name) fs) ∙ is_some_map plain_function (function_by fs (Some name)))))
 
 pub there_after : (c : Core) (lane : ℕ) (call : Flight) (f : File) (s2 : State) → Coherent c → (g : IsStoring c lane call f s2) → (a : Claim) → AreThere c.names a → AreThere (names_after c call s2) a
 there_after c lane call f s2 h g a t = record {
@@ -116,7 +100,7 @@ pub seen_after : (c : Core) (lane : ℕ) (call : Flight) (f : File) (s2 : State)
     file_of name (plain_after c call s2 places pages).files ≡ option_map (plain_file places pages) (option_map (relen f.id (length g.stored.new)) (file_by c.names.files (Some name)))
 seen_after c lane call f s2 places pages h g name = file_seen c.shape (names_after c call s2) places pages name ∙ ap (option_map (plain_file places pages)) (found_after c lane call f s2 h g (Some name))
 
-abbrev or_empty : List ℕ → Option PlainFile → PlainFile
+abbrev pub or_empty : List ℕ → Option PlainFile → PlainFile
 or_empty name o = unwrap_or o (record { id = 0; name = name; bytes = []; sealed = false })
 
 none_alike : (places places2 : Places) (pages pages2 : ℕ → Page) (id n : ℕ) (o : Option File) → is_none (option_map (plain_file places2 pages2) (option_map (relen id n) o)) ≡ is_none (option_map (plain_file places pages) o)

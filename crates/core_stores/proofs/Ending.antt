@@ -1,8 +1,8 @@
 -- The End of a call that stores: tails, and the whole event.
-use Rattle.std.proofs.Common.{◌≡◌, ℕ, zero, suc, ◌+◌, ◌-◌, ◌<◌, ◌≤◌, List, [], ◌∷◌, length, Option, Some, None, refl, sym, ap, ◌∙◌, subst, inl, inr, ⊎_elim, arith, get_or}
+use Rattle.std.proofs.Common.{◌≡◌, ℕ, ◌+◌, ◌-◌, ◌<◌, ◌≤◌, List, length, Option, Some, None, refl, sym, ap, ◌∙◌, subst, inl, inr, ⊎_elim, arith, get_or}
 use Rattle.std.specs.Prelude.{◌≢◌, ◌⊎◌, ◌*◌}
 use Rattle.std.specs.List.{Contains}
-use Rattle.std.proofs.lemmas.List.{get_or-replicate}
+use Rattle.std.proofs.lemmas.List.{get_or-replicate, get_or_past}
 use Rattle.std.proofs.lemmas.List.FromFn.{get_or-map-range_with_len}
 use Rattle.page_base.specs.Bytes.{Pages, zero_page}
 use Rattle.index_lists.proofs.Counts.{same_or_not}
@@ -14,38 +14,27 @@ use Rattle.core_state.specs.PlainOf.{bytes_by_id, page_at}
 use Rattle.core_state.specs.Placed.{Tails}
 use Rattle.core_state.specs.Placed.{HavePlaces}
 use Rattle.core_state.specs.Coherent.{Coherent}
-use Rattle.core_state.specs.EndEvent.{installed}
 use Rattle.core_state.specs.Resizing.{renewed}
-use Rattle.dispatcher.specs.declared.side.Side.{Side}
-use Rattle.dispatcher.specs.declared.side.Side.TheVariants.{Host, Drive}
+use Rattle.core_lemmas.proofs.Words.{less_or_not}
 use Rattle.core_quick.proofs.Named.{in_map, one_of_id}
 use Rattle.core_quick.proofs.Released.{renewed_blank}
-use Rattle.core_stores.proofs.Reached.{less_or_not}
 use Rattle.core_stores.proofs.Named.{relen, own_relen, other_relen}
 use Rattle.core_stores.proofs.Free.{listed_there}
-use Rattle.core_stores.proofs.Others.{file_is, new_len, fresh_of, places_of, spanned_of, there}
+use Rattle.core_hold.proofs.Others.{file_is, new_len, fresh_of, places_of, spanned_of, there}
 use Rattle.core_stores.proofs.Became.{IsEnding, Became, Kept, Renewed, Put, PlaceWas, Old, New, place_was, fresh_blank, gone_from, span_at, span_page, became}
 use Rattle.core_stores.proofs.Claims.{names_after, files_after}
-
-past : (xs : List ℕ) (k : ℕ) → length xs ≤ k → get_or xs k 0 ≡ 0
-past [] k l = refl
-past (x ∷ xs) zero l = absurd (omega arith)
-past (x ∷ xs) (suc k) l = past xs k (omega arith)
+use Rattle.core_stores.proofs.Keeping.{put_content}
 
 page_past : (bytes : List ℕ) (p j : ℕ) → j < 4096 → length bytes ≤ 4096 * p + j → get_or (page_at bytes p) j 0 ≡ 0
 unfolding from_fn
-page_past bytes p j l m = get_or-map-range_with_len (λ j. get_or bytes (4096 * p + j) 0) 0 4096 j j 0 l (omega arith) ∙ past bytes (4096 * p + j) m
+page_past bytes p j l m = get_or-map-range_with_len (λ j. get_or bytes (4096 * p + j) 0) 0 4096 j j 0 l (omega arith) ∙ get_or_past bytes (4096 * p + j) 0 m
 
-zeros : (j : ℕ) → j < 4096 → get_or zero_page j 0 ≡ 0
+pub zeros : (j : ℕ) → j < 4096 → get_or zero_page j 0 ≡ 0
 unfolding zero_page
 zeros j l = get_or-replicate 4096 j 0 0 l
 
-blank_content : (w : Block) → IsBlank w → content w ≡ zero_page
+pub blank_content : (w : Block) → IsBlank w → content w ≡ zero_page
 blank_content w k = let a = k.away.host in let b = k.away.drive in let d = k.away.lent in let e = k.written in grind arith
-
-put_content : (side : Side) (page : Page) (w : Block) → content (installed side page w) ≡ page
-put_content Host page w = refl
-put_content Drive page w = refl
 
 pub tails_after : (c : Core) (lane : ℕ) (call : Flight) (f : File) (s2 : State) (to : ℕ) → Coherent c → (g : IsEnding c lane call f s2 to) → HavePlaces c.shape (names_after c call s2) (places_of c f.id (Pages f.len) to) →
     Tails (names_after c call s2) (places_of c f.id (Pages f.len) to) (contents (spanned_of c call f.id (Pages f.len) to s2))

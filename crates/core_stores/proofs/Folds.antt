@@ -20,7 +20,7 @@ use Rattle.core_pages.proofs.FlushIn.{flush_in_keeps}
 use Rattle.core_pages.proofs.Idle.{evict_keeps, demote_keeps}
 use Rattle.core_pages.proofs.Take.{take_keeps}
 use Rattle.core_quick.proofs.Quick.{quick_keeps}
-use Rattle.core_ends.proofs.Legal.{event_legal}
+use Rattle.core_stores.proofs.Legal.{event_legal}
 use Rattle.core_stores.proofs.Ends.{end_keeps}
 
 pub event_keeps : (e : Event) (c : Core) → Coherent c → Happens c e (after c e) → Coherent (after c e)

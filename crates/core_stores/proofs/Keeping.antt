@@ -21,7 +21,7 @@ use Rattle.core_stores.proofs.Became.{Became, Kept, Renewed, Put}
 
 -- ---- a block
 
-put_content : (side : Side) (page : Page) (w : Block) → content (installed side page w) ≡ page
+pub put_content : (side : Side) (page : Page) (w : Block) → content (installed side page w) ≡ page
 put_content Host page w = refl
 put_content Drive page w = refl
 

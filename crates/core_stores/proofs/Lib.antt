@@ -1,8 +1,6 @@
 pub mod Free
 pub mod Reached
-pub mod Answers
 pub mod Named
-pub mod Others
 pub mod Became
 pub mod Runs
 pub mod Claims
@@ -11,5 +9,8 @@ pub mod Keeping
 pub mod Placing
 pub mod Storing
 pub mod Ending
+pub mod Staying
 pub mod Ends
+pub mod Moving
+pub mod Legal
 pub mod Folds

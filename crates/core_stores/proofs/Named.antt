@@ -15,6 +15,7 @@ use Rattle.core_lemmas.proofs.Words.{same_some}
 use Rattle.core_lemmas.proofs.Spans.{found_in}
 use Rattle.core_quick.proofs.Seen.{length_bytes, like_seen, files_seen}
 use Rattle.core_quick.proofs.Named.{in_here}
+use Rattle.core_hold.proofs.Others.{changing}
 
 -- the file, of this length where it has this id
 abbrev pub relen : ℕ → ℕ → File → File
@@ -45,9 +46,6 @@ others_stay id n (f ∷ files) h = ap (λ (g : File). g ∷ map (relen id n) fil
   where
     there : {g : File} → Contains files g → Contains (f ∷ files) g
     there i = let l = i.1 in (suc i.0, omega arith, i.2)
-
-abbrev changing : List ℕ → PlainFile → PlainFile
-changing new file = record file { bytes = new }
 
 -- the files of the new plain state
 pub files_relen : (places : Places) (pages : ℕ → Page) (name new : List ℕ) (files : List File) (f : File) → EachBehind (λ (x y : File). x.id < y.id) files → find (λ (g : File). bytes_eq g.name name) files ≡ Some f →

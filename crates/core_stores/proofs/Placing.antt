@@ -15,16 +15,16 @@ use Rattle.core_state.specs.PlainOf.{file_page, plain_file, plain}
 use Rattle.core_state.specs.Placed.{AreNamed, HavePlaces}
 use Rattle.core_state.specs.Coherent.{Coherent}
 use Rattle.core_state.specs.Resizing.{free_blocks, page_between}
+use Rattle.core_lemmas.proofs.Words.{low, high}
 use Rattle.core_quick.proofs.Named.{in_map, each_map}
 use Rattle.core_quick.proofs.Sealed.{in_mapped}
 use Rattle.core_quick.proofs.Seen.{length_bytes}
 use Rattle.core_hold.proofs.Moves.{not_fresh}
 use Rattle.core_hold.proofs.Quicks.{other_place}
 use Rattle.core_hold.proofs.Spanning.{own_place}
-use Rattle.core_hold.proofs.Storing.{IsStoring}
 use Rattle.core_stores.proofs.Free.{free_enough, free_once, free_low, has_at, one_place, listed_there}
 use Rattle.core_stores.proofs.Named.{relen, own_relen, other_relen, sum_changed, sum_seen}
-use Rattle.core_stores.proofs.Others.{changing, there, plain_by_name, fresh_of, places_of}
+use Rattle.core_hold.proofs.Others.{IsStoring, changing, there, plain_by_name, fresh_of, places_of}
 use Rattle.core_stores.proofs.Became.{PlaceWas, Old, New, place_was}
 use Rattle.core_stores.proofs.Claims.{names_after, files_after}
 
@@ -41,15 +41,6 @@ enough c lane call f s2 h g fits to is =
     let l = ap Pages (length_bytes f.len (file_page c.places (contents c.blocks) f.id)) in
     let o = not_more (sum_by (λ (file : PlainFile). Pages (length file.bytes)) (with_content (plain c) g.stored.name g.stored.new).files) c.shape.blocks fits in
     omega arith
-
-is_low : (p n : ℕ) → p < n → nat_lt p n ≡ true
-is_low p n e = grind (arith, nat_tests)
-
-low : (p n : ℕ) → nat_lt p n ≡ true → p < n
-low p n e = grind (arith, nat_tests)
-
-high : (p n : ℕ) → nat_lt p n ≡ false → n ≤ p
-high p n e = grind (arith, nat_tests)
 
 row_exact : (row : ℕ → Option ℕ) (fresh : List ℕ) (from to p : ℕ) → ((q : ℕ) → is_some (row q) ≡ nat_lt q from) → to - from ≤ length fresh → is_some (page_between row fresh from to p) ≡ nat_lt p to
 row_exact row fresh from to p exact l = go (nat_lt p to) (nat_lt p from) refl refl

@@ -1,6 +1,6 @@
 -- What a call in flight meets in its file stays, where another call changes the file's length within the pages that it locks.
-use Rattle.std.proofs.Common.{◌≡◌, ℕ, ◌+◌, ◌-◌, ◌<◌, ◌≤◌, Bool, true, false, length, refl, sym, ap, ◌∙◌, inl, inr, ⊎_elim, arith}
-use Rattle.std.specs.Prelude.{◌≢◌, ◌⊎◌, ◌==◌, ◌/◌, nat_lt, min, if◌then◌else◌}
+use Rattle.std.proofs.Common.{◌≡◌, ℕ, ◌+◌, ◌-◌, ◌<◌, ◌≤◌, Bool, true, false, length, refl, sym, ap, ◌∙◌, ⊎_elim, arith}
+use Rattle.std.specs.Prelude.{◌≢◌, ◌==◌, ◌/◌, nat_lt, min, if◌then◌else◌}
 use Rattle.std.proofs.lemmas.Bool.Decides.{nat_tests}
 use Rattle.page_base.specs.Bytes.{Pages}
 use Rattle.index_lists.proofs.Counts.{same_or_not}
@@ -9,14 +9,8 @@ use Rattle.plain_files.specs.declared.calls.Call.TheVariants.{Create, OpenFile, 
 use Rattle.core_state.specs.State.{Shared, Exclusive, Reach}
 use Rattle.core_state.specs.Reach.{no_reach, read_reach, write_reach, trunc_reach, reach_of}
 use Rattle.core_state.specs.InFlight.{InRange}
+use Rattle.core_lemmas.proofs.Words.{less_or_not}
 use Rattle.core_hold.proofs.Reaches.{Stretches, Apart, changed_at, went}
-
-pub less_or_not : (m n : ℕ) → (m < n) ⊎ (n ≤ m)
-less_or_not m n = go (nat_lt m n) refl
-  where
-    go : (t : Bool) → nat_lt m n ≡ t → (m < n) ⊎ (n ≤ m)
-    go true e = inl (grind (arith, nat_tests))
-    go false e = inr (grind (arith, nat_tests))
 
 test_is : (m n : ℕ) → m < n → nat_lt m n ≡ true
 test_is m n l = grind (arith, nat_tests)

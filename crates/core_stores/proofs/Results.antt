@@ -1,6 +1,6 @@
 -- The runs of the other calls in flight give what they gave, where a call that stores ends.
-use Rattle.std.proofs.Common.{◌≡◌, ℕ, ◌+◌, ◌-◌, ◌<◌, ◌≤◌, Bool, true, false, List, [], length, Option, Some, None, refl, sym, ap, ◌∙◌, subst, ⊎_elim, arith}
-use Rattle.std.specs.Prelude.{◌≢◌, ◌==◌, ◌/◌, nat_lt, min, option_map, unwrap_or, if◌then◌else◌}
+use Rattle.std.proofs.Common.{◌≡◌, ℕ, ◌+◌, ◌-◌, ◌<◌, ◌≤◌, Bool, true, false, List, length, Option, Some, None, refl, sym, ap, ◌∙◌, subst, ⊎_elim, arith}
+use Rattle.std.specs.Prelude.{◌≢◌, ◌==◌, ◌/◌, nat_lt, min, option_map, if◌then◌else◌}
 use Rattle.std.proofs.lemmas.Bool.Decides.{nat_tests}
 use Rattle.page_base.specs.Bytes.{Pages, Cut}
 use Rattle.index_lists.proofs.Counts.{same_or_not}
@@ -15,14 +15,13 @@ use Rattle.core_state.specs.PlainOf.{plain_file, plain, file_page}
 use Rattle.core_state.specs.InFlight.{claim_of, InRange}
 use Rattle.core_state.specs.Coherent.{Coherent}
 use Rattle.core_lemmas.proofs.Views.{file_seen}
+use Rattle.core_lemmas.proofs.Words.{less_or_not}
 use Rattle.core_quick.proofs.Flying.{FliesOn, flies_on}
 use Rattle.core_hold.proofs.Reaches.{Stretches, Apart, came, went}
-use Rattle.core_hold.proofs.Storing.{IsStoring}
-use Rattle.core_stores.proofs.Reached.{less_or_not}
 use Rattle.core_stores.proofs.Named.{relen, own_relen, other_relen}
-use Rattle.core_stores.proofs.Others.{StillHas, apart_of, stretches_of, most_of}
+use Rattle.core_hold.proofs.Others.{IsStoring, StillHas, apart_of, stretches_of, most_of}
 use Rattle.core_stores.proofs.Runs.{CutsSame, cut_same}
-use Rattle.core_stores.proofs.Claims.{plain_after, seen_after, own_file, most_after}
+use Rattle.core_stores.proofs.Claims.{plain_after, seen_after, own_file, most_after, or_empty}
 
 -- a reach locks the pages of these bytes, and its span has those that the file has
 record Covers (b : Reach) (off n len : ℕ) : Type 0 where
@@ -71,9 +70,6 @@ page_stays c places blocks a s i l = ap (page_of (contents blocks)) (s.span i l)
     go : (o : Option ℕ) → span_block c.places a i ≡ o → page_of (contents blocks) o ≡ page_of (contents c.blocks) o
     go None e = refl
     go (Some b) e = ap content (s.same i b l e)
-
-abbrev or_empty : List ℕ → Option PlainFile → PlainFile
-or_empty name o = unwrap_or o (record { id = 0; name = name; bytes = []; sealed = false })
 
 -- the bytes that a run reads
 cut_after : (c : Core) (lane : ℕ) (call : Flight) (f : File) (s2 : State) (places : Places) (blocks : ℕ → Block) → Coherent c → (g : IsStoring c lane call f s2) → (l : ℕ) (y : Flight) → l ≢ lane → c.calls l ≡ Some y → StillHas c places blocks y.claim →

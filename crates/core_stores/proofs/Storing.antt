@@ -1,8 +1,7 @@
 -- The End of a call that stores keeps a core coherent.
 use Rattle.std.proofs.Common.{◌≡◌, ℕ, ◌+◌, ◌-◌, ◌<◌, ◌≤◌, true, false, List, length, Option, Some, None, refl, sym, ap, ◌∙◌, subst, ⊎_elim, arith, get_or, length-append}
-use Rattle.std.specs.Prelude.{◌≢◌, ◌*◌, nat_lt, is_some, if◌then◌else◌}
+use Rattle.std.specs.Prelude.{◌≢◌, ◌*◌, is_some, if◌then◌else◌}
 use Rattle.std.specs.List.{Contains}
-use Rattle.std.proofs.lemmas.Bool.Decides.{nat_tests}
 use Rattle.std.proofs.lemmas.List.FromFn.{length-map-range_with_len}
 use Rattle.page_base.specs.Bytes.{Pages}
 use Rattle.dispatcher.specs.declared.side.Side.{Side}
@@ -25,12 +24,12 @@ use Rattle.core_state.specs.Dies.{owner, IsResult, IsErrand}
 use Rattle.core_state.specs.Coherent.{Coherent}
 use Rattle.core_state.specs.LaneEvents.{replied}
 use Rattle.core_state.specs.EndEvent.{installed, span_order}
-use Rattle.core_lemmas.proofs.Words.{same_some}
-use Rattle.core_ends.proofs.Landing.{without_call, still_there, other_there, used_gone, locked_gone, queued_gone, errand_gone}
+use Rattle.core_lemmas.proofs.Words.{same_some, less_or_not, low}
+use Rattle.core_lemmas.proofs.Calls.{without_call, still_there, other_there}
+use Rattle.core_ends.proofs.Landing.{used_gone, locked_gone, queued_gone, errand_gone}
 use Rattle.core_quick.proofs.Released.{listed_in, renewed_blank, length-without_all, count-without_all_out}
-use Rattle.core_stores.proofs.Reached.{less_or_not}
 use Rattle.core_stores.proofs.Runs.{early_near, outcome_near}
-use Rattle.core_stores.proofs.Others.{StillHas, still_has, fresh_of, places_of, spanned_of, there}
+use Rattle.core_hold.proofs.Others.{StillHas, still_has, fresh_of, places_of, spanned_of, there}
 use Rattle.core_stores.proofs.Became.{IsEnding, Became, Kept, Renewed, Put, placed_stays, place_stays, span_low, gone_from, span_at, span_page, became}
 use Rattle.core_stores.proofs.Claims.{names_after, plain_after, functions_after, there_after, claim_after, near}
 use Rattle.core_stores.proofs.Results.{page_stays, cuts_after}
@@ -67,9 +66,6 @@ result_near s t call Held same h = h
 result_near s t call Queued same h = h
 result_near s t call (Running w) same h = h
 result_near s t call (Reported r) same h = h ∙ ap Some (sym same)
-
-low : (p n : ℕ) → nat_lt p n ≡ true → p < n
-low p n e = grind (arith, nat_tests)
 
 -- a page with a block is one of the file's
 page_low : (c : Core) (f : File) (id p b : ℕ) → c.places id p ≡ Some b → id ≡ f.id → Contains c.names.files f → Coherent c → p < Pages f.len

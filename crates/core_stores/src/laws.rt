@@ -1,8 +1,9 @@
 //! Laws: each is the contract of an empty function.
-ghost use Rattle.std.specs.Prelude.{ℕ, ◌≡◌, true, false, List};
+ghost use Rattle.std.specs.Prelude.{ℕ, ◌≡◌, true, false, List, [], ◌∷◌};
 ghost use Rattle.plain_files.specs.declared.calls.Reply.{Reply};
 ghost use Rattle.plain_files.specs.declared.calls.Request.{Request};
 ghost use Rattle.plain_files.specs.History.{Legal};
+ghost use Rattle.plain_files.specs.Plain.{answer};
 ghost use Rattle.core_state.specs.declared.event.Event.{Event};
 ghost use Rattle.core_state.specs.PlainOf.{plain};
 ghost use Rattle.core_state.specs.History.{calls_of};
@@ -22,6 +23,21 @@ pub fn storing_end_kept()
 /// A call that ends keeps a core coherent, whatever it did.
 pub fn end_kept()
     ensures { (lane : ℕ) (request : Request) (reply : Reply) (c c2 : Core) → Coherent c → Happens c (End lane request reply) c2 → Coherent c2 }
+{}
+
+/// A call that ends without a mark moves the plain state as the plain machine says of it: bytes that it stores are where the plain machine
+/// has them, and no other byte of any file changes. One with a mark leaves the plain state.
+pub fn end_moves()
+    ensures moves { (lane : ℕ) (request : Request) (reply : Reply) (c c2 : Core) → Coherent c → Happens c (End lane request reply) c2 →
+        (c.lanes lane).mark ≡ false → plain c2 ≡ (answer (plain c) request.call).state }
+    ensures marked { (lane : ℕ) (request : Request) (reply : Reply) (c c2 : Core) → Coherent c → Happens c (End lane request reply) c2 →
+        (c.lanes lane).mark ≡ true → plain c2 ≡ plain c }
+{}
+
+/// Each event is legal on plain files: it moves the plain state as the plain machine says of the call that it ends, with that reply; one
+/// that ends no call, or ends it by `fault` or `nomemory`, leaves the plain state.
+pub fn event_legal()
+    ensures { (c c2 : Core) (e : Event) → Coherent c → Happens c e c2 → Legal (plain c) (calls_of (e ∷ [])) (plain c2) }
 {}
 
 /// Every list of events leads from a coherent core to a coherent one.

@@ -1,4 +1,5 @@
-//! Laws of the core: the End of a call that stores keeps a core coherent, so every run does, and the calls of a run are legal on plain files.
+//! Laws of the core: an End keeps a core coherent and moves the plain state as the plain machine says, so every run keeps a core coherent,
+//! and the calls of a run are legal on plain files.
 #![tactic(auto)]
 
 pub mod laws;

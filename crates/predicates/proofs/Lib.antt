@@ -1,0 +1,3 @@
+pub mod NodeLaws
+pub mod FieldLaws
+pub mod SelectLaws
