@@ -128,7 +128,7 @@ refused_exact words before after status.NoMemory command refusal cause asked is 
 acts_are_ok : (finish : Finish) (acts : List Act) → AreActs finish acts → status_at finish ≡ status.Ok
 acts_are_ok (refuses refusal) acts are = absurd are
 acts_are_ok (does expected) acts are = refl
-acts_are_ok (transcribes script) acts are = refl
+acts_are_ok (transcribes drive script out) acts are = refl
 
 -- an act fails only where the room or the sink does
 failed_somewhere : (before after : Edge) (a : Act) → Fails before after a → ¬ RoomFails before after → ¬ SinkFails before after → ⊥

@@ -1,15 +1,12 @@
 -- The work of a command, as far as it was done.
 use Rattle.std.proofs.Common.{◌≡◌, ◌≤◌, inr, inl, ℕ, List, Option, Ok, Err, refl, sym, subst}
 use Rattle.std.specs.Prelude.{Result, IfOk, IfErr}
-use Rattle.call_text.specs.declared.script.Script.{Script}
-use Rattle.call_text.specs.Scripts.{read_script}
 use Rattle.edge_io.specs.Edges.{Names, IsUnder, Lacks, HasName}
 use Rattle.stack_top.specs.declared.acts.Act.{Act}
 use Rattle.stack_top.specs.declared.refusal.Refusal.{Refusal}
 use Rattle.stack_top.specs.declared.refusal.Refusal.TheVariants as refused
-use Rattle.stack_top.specs.Scripts.{script_in, with_script, reads_script}
-use Rattle.stack_top.specs.Works.{Finish, refuses, Work, reads, ends, Wants, ComesTo}
-use Rattle.stack_top.specs.Decided.{IsUnread, IsFinished, IsDecided, IsScript, IsHeldScript}
+use Rattle.stack_top.specs.Works.{Finish, refuses, Work, reads, ends, with_read, Wants, ComesTo}
+use Rattle.stack_top.specs.Decided.{IsUnread, IsFinished, IsDecided, IsRead, GoesOn}
 use Rattle.stack_top.proofs.ActsDone.{rose_since}
 
 -- the file that is read next gave nothing
@@ -29,49 +26,46 @@ finished told before now name bytes finish (Err (refused.Absent other)) under is
 finished told before now name bytes finish (Err (refused.ReadFault other)) under is = absurd is
 finished told before now name bytes finish (Err refusal) under is = (bytes, under, is)
 
--- ---- scripts
+-- ---- a file that is read, and the work with what it was read as
 
--- a work that goes on with a script that was read
-comes_after : (dies : ℕ) (told : Option Names) (name : List ℕ) (script : Script) (next : Script → Work) (finish : Finish) → IsHeldScript dies told name script → ComesTo told (next script) finish → ComesTo told (reads_script dies name next) finish
-comes_after dies told name script next finish held comes =
-    let P : Result Script Refusal → Type 0 = λ read. ComesTo told (with_script read next) finish in
-    (held.bytes, held.under, subst P (sym held.is) comes)
+-- it was read as this
+pub read_on : (X : Type 0) (told : Option Names) (name bytes : List ℕ) (read : List ℕ → Result X Refusal) (x : X) (next : X → Work) → IsUnder told name bytes → read bytes ≡ Ok x → GoesOn told (reads name (λ b. with_read (read b) next)) (next x)
+read_on X told name bytes read x next under is = record {
+  wants = λ other wants.
+      let P : Result X Refusal → Type 0 = λ r. Wants told (with_read r next) other in
+      inr (bytes, under, subst P (sym is) wants);
+  comes = λ finish comes.
+      let P : Result X Refusal → Type 0 = λ r. ComesTo told (with_read r next) finish in
+      (bytes, under, subst P (sym is) comes);
+}
 
-wants_after : (dies : ℕ) (told : Option Names) (name other : List ℕ) (script : Script) (next : Script → Work) → IsHeldScript dies told name script → Wants told (next script) other → Wants told (reads_script dies name next) other
-wants_after dies told name other script next held wants =
-    let P : Result Script Refusal → Type 0 = λ read. Wants told (with_script read next) other in
-    inr (held.bytes, held.under, subst P (sym held.is) wants)
-
-comes_refused : (dies : ℕ) (told : Option Names) (name bytes : List ℕ) (next : Script → Work) (refusal : Refusal) → IsUnder told name bytes → script_in dies (read_script bytes) ≡ Err refusal → ComesTo told (reads_script dies name next) (refuses refusal)
-comes_refused dies told name bytes next refusal under is =
-    let P : Result Script Refusal → Type 0 = λ read. ComesTo told (with_script read next) (refuses refusal) in
+read_refused : (X : Type 0) (told : Option Names) (name bytes : List ℕ) (read : List ℕ → Result X Refusal) (next : X → Work) (refusal : Refusal) → IsUnder told name bytes → read bytes ≡ Err refusal → ComesTo told (reads name (λ b. with_read (read b) next)) (refuses refusal)
+read_refused X told name bytes read next refusal under is =
+    let P : Result X Refusal → Type 0 = λ r. ComesTo told (with_read r next) (refuses refusal) in
     (bytes, under, subst P (sym is) refl)
 
--- what was read is no script
-pub unfit : (dies : ℕ) (told : Option Names) (before now : ℕ) (name bytes : List ℕ) (next : Script → Work) (refusal : Refusal) → IsUnder told name bytes → IsScript (script_in dies (read_script bytes)) (Err refusal) → IsDecided told before now (reads_script dies name next) (Err refusal)
-unfit dies told before now name bytes next (refused.Absent other) under is = absurd is
-unfit dies told before now name bytes next (refused.ReadFault other) under is = absurd is
-unfit dies told before now name bytes next refused.NoMemory under is = is
-unfit dies told before now name bytes next refusal under is = comes_refused dies told name bytes next refusal under is
+-- it was refused
+unfit : (X : Type 0) (told : Option Names) (before now : ℕ) (name bytes : List ℕ) (read : List ℕ → Result X Refusal) (next : X → Work) (refusal : Refusal) → IsUnder told name bytes → IsRead (read bytes) (Err refusal) → IsDecided told before now (reads name (λ b. with_read (read b) next)) (Err refusal)
+unfit X told before now name bytes read next (refused.Absent other) under is = absurd is
+unfit X told before now name bytes read next (refused.ReadFault other) under is = absurd is
+unfit X told before now name bytes read next refused.NoMemory under is = is
+unfit X told before now name bytes read next refusal under is = read_refused X told name bytes read next refusal under is
 
-pub held_script : (dies : ℕ) (told : Option Names) (name bytes : List ℕ) (result : Result Script Refusal) → IsUnder told name bytes → IsScript (script_in dies (read_script bytes)) result → IfOk result (IsHeldScript dies told name)
-held_script dies told name bytes (Ok script) under is = record { bytes = bytes; under = under; is = is }
-held_script dies told name bytes (Err refusal) under is = tt
+pub if_read : (X : Type 0) (told : Option Names) (name bytes : List ℕ) (read : List ℕ → Result X Refusal) (result : Result X Refusal) → IsUnder told name bytes → IsRead (read bytes) result → IfOk result (λ x. (next : X → Work) → GoesOn told (reads name (λ b. with_read (read b) next)) (next x))
+if_read X told name bytes read (Ok x) under is = λ next. read_on X told name bytes read x next under is
+if_read X told name bytes read (Err refusal) under is = tt
 
-pub unfit_script : (dies : ℕ) (told : Option Names) (before now : ℕ) (name bytes : List ℕ) (result : Result Script Refusal) → IsUnder told name bytes → IsScript (script_in dies (read_script bytes)) result → IfErr result (λ refusal. (next : Script → Work) → IsDecided told before now (reads_script dies name next) (Err refusal))
-unfit_script dies told before now name bytes (Ok script) under is = tt
-unfit_script dies told before now name bytes (Err refusal) under is = λ next. unfit dies told before now name bytes next refusal under is
+pub if_unfit : (X : Type 0) (told : Option Names) (before now : ℕ) (name bytes : List ℕ) (read : List ℕ → Result X Refusal) (result : Result X Refusal) → IsUnder told name bytes → IsRead (read bytes) result → IfErr result (λ refusal. (next : X → Work) → IsDecided told before now (reads name (λ b. with_read (read b) next)) (Err refusal))
+if_unfit X told before now name bytes read (Ok x) under is = tt
+if_unfit X told before now name bytes read (Err refusal) under is = λ next. unfit X told before now name bytes read next refusal under is
 
--- the work went on with a script that was read
-pub after_script : (dies : ℕ) (told : Option Names) (before middle now : ℕ) (name : List ℕ) (script : Script) (next : Script → Work) (result : Result (List Act) Refusal) → IsHeldScript dies told name script → before ≤ middle → IsDecided told middle now (next script) result → IsDecided told before now (reads_script dies name next) result
-after_script dies told before middle now name script next (Ok acts) held later is =
-    record { finish = is.finish; comes = comes_after dies told name script next is.finish held is.comes; are = is.are }
-after_script dies told before middle now name script next (Err (refused.Absent other)) held later is =
-    (wants_after dies told name other script next held is.0, is.1)
-after_script dies told before middle now name script next (Err (refused.ReadFault other)) held later is =
-    (wants_after dies told name other script next held is.0, is.1, rose_since before middle now later is.2)
-after_script dies told before middle now name script next (Err refused.NoMemory) held later is = is
-after_script dies told before middle now name script next (Err refusal) held later is = comes_after dies told name script next (refuses refusal) held is
+-- the work went on
+pub after : (told : Option Names) (before middle now : ℕ) (work later : Work) (result : Result (List Act) Refusal) → GoesOn told work later → before ≤ middle → IsDecided told middle now later result → IsDecided told before now work result
+after told before middle now work later (Ok acts) on since is = record { finish = is.finish; comes = on.comes is.finish is.comes; are = is.are }
+after told before middle now work later (Err (refused.Absent other)) on since is = (on.wants other is.0, is.1)
+after told before middle now work later (Err (refused.ReadFault other)) on since is = (on.wants other is.0, is.1, rose_since before middle now since is.2)
+after told before middle now work later (Err refused.NoMemory) on since is = is
+after told before middle now work later (Err refusal) on since is = on.comes (refuses refusal) is
 
 -- a finish is a work that reads nothing more
 pub at_finish : (told : Option Names) (before now : ℕ) (finish : Finish) (result : Result (List Act) Refusal) → IsFinished finish result → IsDecided told before now (ends finish) result

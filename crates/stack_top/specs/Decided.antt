@@ -1,12 +1,9 @@
 -- What a command may have decided, and why reading a file gave nothing. This project's own.
 use Rattle.std.specs.Prelude.{◌≡◌, ⊤, ℕ, List, Option, Result, Ok, Err}
-use Rattle.call_text.specs.declared.script.Script.{Script}
-use Rattle.call_text.specs.Scripts.{read_script}
-use Rattle.edge_io.specs.Edges.{Names, Rose, IsUnder, Lacks, HasName}
+use Rattle.edge_io.specs.Edges.{Names, Rose, Lacks, HasName}
 use Rattle.stack_top.specs.declared.acts.Act.{Act}
 use Rattle.stack_top.specs.declared.refusal.Refusal.{Refusal}
 use Rattle.stack_top.specs.declared.refusal.Refusal.TheVariants as refused
-use Rattle.stack_top.specs.Scripts.{script_in}
 use Rattle.stack_top.specs.Works.{Finish, refuses, Work, Wants, ComesTo, ComesToDo, AreActs}
 
 -- by the room's names, and its counts of faults before and after: why a read of the name gave nothing
@@ -32,16 +29,15 @@ IsDecided told before now work (Err (refused.Absent name)) = Wants told work nam
 IsDecided told before now work (Err (refused.ReadFault name)) = Wants told work name × HasName told name × Rose before now
 IsDecided told before now work (Err refusal) = ComesTo told work (refuses refusal)
 
--- the script of what was read, its refusal, or want of memory
-abbrev pub IsScript : Result Script Refusal → Result Script Refusal → Type 0
-IsScript read (Ok script) = read ≡ Ok script
-IsScript read (Err refused.NoMemory) = ⊤
-IsScript read (Err (refused.Absent name)) = ⊥
-IsScript read (Err (refused.ReadFault name)) = ⊥
-IsScript read (Err refusal) = read ≡ Err refusal
+-- what was read, its refusal, or want of memory
+abbrev pub IsRead : {X : Type 0} → Result X Refusal → Result X Refusal → Type 0
+IsRead read (Ok x) = read ≡ Ok x
+IsRead read (Err refused.NoMemory) = ⊤
+IsRead read (Err (refused.Absent name)) = ⊥
+IsRead read (Err (refused.ReadFault name)) = ⊥
+IsRead read (Err refusal) = read ≡ Err refusal
 
--- a script over so many dies that the room held under the name
-pub record IsHeldScript (dies : ℕ) (told : Option Names) (name : List ℕ) (script : Script) : Type 0 where
-  pub bytes : List ℕ
-  pub under : IsUnder told name bytes
-  pub is : script_in dies (read_script bytes) ≡ Ok script
+-- A work goes on as a later one: what that one wants and comes to, it wants and comes to.
+pub record GoesOn (told : Option Names) (work later : Work) : Type 0 where
+  pub wants : (name : List ℕ) → Wants told later name → Wants told work name
+  pub comes : (finish : Finish) → ComesTo told later finish → ComesTo told work finish

@@ -4,6 +4,7 @@ pub mod Words
 pub mod Moments
 pub mod Acts
 pub mod Refusals
+pub mod Images
 pub mod Works
 pub mod Decided
 pub mod Performed

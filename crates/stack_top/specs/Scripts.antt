@@ -1,14 +1,37 @@
--- Scripts by their names, and `solo - SCRIPT -`: the calls of a script, in line order on one thread. This project's own.
-use Rattle.std.specs.Prelude.{ℕ, List, Bool, ◌||◌, nat_le, Option, Some, None, Result, Ok, Err}
+-- IMAGE and SCRIPT by their names, and `solo IMAGE SCRIPT OUT`: the calls of a script over a drive, in line order on one
+-- thread. This project's own.
+use Rattle.std.specs.Prelude.{ℕ, List, codes, bytes_eq, Bool, ◌||◌, nat_le, if◌then◌else◌, Option, Some, None, Result, Ok, Err}
 use Rattle.std.specs.List.{find}
 use Rattle.call_text.specs.declared.script.FaultLine.{FaultLine}
 use Rattle.call_text.specs.declared.script.Script.{Script}
 use Rattle.call_text.specs.declared.faults.ScriptErr.{ScriptErr}
 use Rattle.call_text.specs.declared.faults.ScriptErr.TheVariants as err
 use Rattle.call_text.specs.Scripts.{read_script}
+use Rattle.image_format.specs.declared.faults.ImageFault.{ImageFault}
+use Rattle.plain_image.specs.declared.drive.PlainDrive.{PlainDrive}
+use Rattle.plain_image.specs.Drives.{drive_of}
 use Rattle.stack_top.specs.declared.refusal.Refusal.{Refusal}
 use Rattle.stack_top.specs.declared.refusal.Refusal.TheVariants as refused
-use Rattle.stack_top.specs.Works.{refuses, transcribes, Work, reads, ends}
+use Rattle.stack_top.specs.Acts.{name_of}
+use Rattle.stack_top.specs.Images.{empty_drive}
+use Rattle.stack_top.specs.Works.{transcribes, Work, reads, ends, with_read}
+
+-- ---- images
+
+-- the drive of what was read, or its refusal
+abbrev pub image_in : Result PlainDrive ImageFault → Result PlainDrive Refusal
+image_in (Ok drive) = Ok drive
+image_in (Err fault) = Err (refused.BadImage fault)
+
+-- the file of an image, and the work with the drive that it mounts to
+abbrev pub reads_drive : List ℕ → (PlainDrive → Work) → Work
+reads_drive name next = reads name (λ bytes. with_read (image_in (drive_of bytes)) next)
+
+-- IMAGE: `-` is the empty drive
+abbrev pub reads_image : List ℕ → (PlainDrive → Work) → Work
+reads_image name next = if bytes_eq name (codes "-") then next empty_drive else reads_drive name next
+
+-- ---- scripts
 
 -- a `fault` line is of a second copy, or of a die that a drive of so many dies lacks
 abbrev pub is_missing : ℕ → FaultLine → Bool
@@ -27,15 +50,13 @@ script_in dies (Err (err.Script fault)) = Err (refused.BadScript fault)
 script_in dies (Err (err.Asm fault)) = Err (refused.BadText fault)
 script_in dies (Err err.NoMemory) = Err refused.NoMemory
 
--- the work with a script, where there is one
-abbrev pub with_script : Result Script Refusal → (Script → Work) → Work
-with_script (Ok script) next = next script
-with_script (Err refusal) next = ends (refuses refusal)
-
 -- the file SCRIPT over so many dies, and the work with its script
 abbrev pub reads_script : ℕ → List ℕ → (Script → Work) → Work
-reads_script dies name next = reads name (λ bytes. with_script (script_in dies (read_script bytes)) next)
+reads_script dies name next = reads name (λ bytes. with_read (script_in dies (read_script bytes)) next)
 
--- until dies serve the calls, there is none that a `fault` line could be of
-abbrev pub solo_work : List ℕ → Work
-solo_work name = reads_script 0 name (λ script. ends (transcribes script))
+-- SCRIPT and OUT, over a drive. Until dies serve the calls, there is none that a `fault` line could be of.
+abbrev pub solo_on : PlainDrive → List ℕ → List ℕ → Work
+solo_on drive script out = reads_script 0 script (λ calls. ends (transcribes drive calls (name_of out)))
+
+abbrev pub solo_work : List ℕ → List ℕ → List ℕ → Work
+solo_work image script out = reads_image image (λ drive. solo_on drive script out)

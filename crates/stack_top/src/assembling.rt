@@ -2,13 +2,15 @@
 ghost use Rattle.std.specs.Prelude.{◌≡◌, ◌≤◌, IfOk, string_bytes};
 ghost use Rattle.sbpf_insn.specs.Refusal.{refusal};
 ghost use Rattle.sbpf_text.specs.Asm.{asm};
-ghost use Rattle.stack_top.specs.Assembling.{slots_line, object_acts, judged_code, assembled, asm_work};
+ghost use Rattle.sbpf_load.specs.Objects.{object_bytes};
+ghost use Rattle.stack_top.specs.Acts.{name_of, written_and_told};
+ghost use Rattle.stack_top.specs.Assembling.{slots_line, judged_code, assembled, asm_work};
 ghost use Rattle.stack_top.specs.Decided.{IsFinished, IsDecided};
 
-use crate::acts::{Act, copy_of};
+use crate::acts::{Act, written_and_told};
 use crate::reading::read_named;
 use crate::refusal::{ObjectFault, Refusal};
-use edge_io::{Bytes, Listed, Room, Text};
+use edge_io::{Listed, Room, Text};
 use sbpf_insn::Code;
 use sbpf_load::{Verified, verify, write_object};
 use sbpf_text::{TextErr, assemble_bytes};
@@ -21,19 +23,12 @@ fn slots_line(alloc: Global, code: &Verified) -> Result<String, AllocError>
     format!(in alloc; "slots {slots}\n")
 }
 
-// The object under OUT, where it isn't `-`, and the line.
 fn object_acts(alloc: Global, out: &Text, code: &Verified) -> Result<Listed<Act>, AllocError>
-    ensures { IfOk result (λ acts. acts ≡ object_acts out.now code.now) }
+    ensures { IfOk result (λ acts. acts ≡ written_and_told (name_of out.now) (object_bytes code.now) (slots_line code.now)) }
 {
-    let line = Text::new(slots_line(alloc, code)?);
-    let mut acts = Listed::new(Vec::new(alloc));
-    if out.as_str() != "-" {
-        let name = copy_of(alloc, out)?;
-        let bytes = Bytes::new(write_object(alloc, code)?);
-        acts.push(Act::Store { name, bytes })?;
-    }
-    acts.push(Act::Print(line))?;
-    Ok(acts)
+    let bytes = write_object(alloc, code)?;
+    let line = slots_line(alloc, code)?;
+    written_and_told(alloc, out, bytes, line)
 }
 
 fn judged_code(alloc: Global, out: &Text, code: Code) -> Result<Listed<Act>, Refusal>

@@ -10,7 +10,7 @@ use crate::checking::check;
 use crate::making::mkimage;
 use crate::objects::{disasm, verify};
 use crate::refusal::Refusal;
-use crate::scripts::solo;
+use crate::running::solo;
 use crate::words::Command;
 use edge_io::{Listed, Room};
 use std::alloc::Global;
@@ -30,7 +30,11 @@ pub fn decided<R: Room>(
         Command::Asm { source, out } => asm(alloc, room, source, out),
         Command::Disasm { object } => disasm(alloc, room, object),
         Command::Verify { object } => verify(alloc, room, object),
-        Command::Check { script, transcript } => check(alloc, room, script, transcript),
-        Command::Solo { script } => solo(alloc, room, script),
+        Command::Check {
+            image,
+            script,
+            transcript,
+        } => check(alloc, room, image, script, transcript),
+        Command::Solo { image, script, out } => solo(alloc, room, image, script, out),
     }
 }

@@ -1,13 +1,14 @@
 //! `mkimage OUT BLOCKS DIES`: the image of an empty drive.
-ghost use Rattle.std.specs.Prelude.{◌≡◌, replicate, length, IfOk};
+ghost use Rattle.std.specs.Prelude.{◌≡◌, replicate, length, IfOk, string_bytes};
 ghost use Rattle.page_base.specs.Bytes.{zero_page};
+ghost use Rattle.stack_top.specs.Acts.{name_of, written_and_told};
 ghost use Rattle.stack_top.specs.Decided.{IsFinished};
-ghost use Rattle.stack_top.specs.Making.{empty_image, bytes_line, image_acts, mkimage_work};
+ghost use Rattle.stack_top.specs.Making.{empty_image, bytes_line};
 ghost use Rattle.stack_top.specs.Works.{does};
 
-use crate::acts::{Act, copy_of};
+use crate::acts::{Act, written_and_told};
 use crate::refusal::Refusal;
-use edge_io::{Bytes, Listed, Text};
+use edge_io::{Listed, Text};
 use image_format::{empty_meta, image_of};
 use page_base::{Geometry, Page};
 use std::alloc::{AllocError, Global};
@@ -32,30 +33,22 @@ fn empty_image(alloc: Global, geometry: Geometry) -> Result<Vec<u8>, AllocError>
     image_of(alloc, &meta, &blocks)
 }
 
-fn bytes_line(alloc: Global, count: usize) -> Result<Text, AllocError>
-    ensures { IfOk result (λ line. line ≡ bytes_line count) }
+fn bytes_line(alloc: Global, count: usize) -> Result<String, AllocError>
+    ensures { IfOk result (λ line. string_bytes line ≡ bytes_line count) }
 {
-    Ok(Text::new(format!(in alloc; "image bytes={count}\n")?))
+    format!(in alloc; "image bytes={count}\n")
 }
 
-// The image under OUT, where it isn't `-`, and the line.
 fn image_acts(alloc: Global, out: &Text, image: Vec<u8>) -> Result<Listed<Act>, AllocError>
-    ensures { IfOk result (λ acts. acts ≡ image_acts out.now image.items) }
+    ensures { IfOk result (λ acts. acts ≡ written_and_told (name_of out.now) image.items (bytes_line (length image.items))) }
 {
     let line = bytes_line(alloc, image.len())?;
-    let mut acts = Listed::new(Vec::new(alloc));
-    if out.as_str() != "-" {
-        let name = copy_of(alloc, out)?;
-        let bytes = Bytes::new(image);
-        acts.push(Act::Store { name, bytes })?;
-    }
-    acts.push(Act::Print(line))?;
-    Ok(acts)
+    written_and_told(alloc, out, image, line)
 }
 
 // The acts of `mkimage OUT BLOCKS DIES`.
 pub fn mkimage(alloc: Global, out: &Text, geometry: Geometry) -> Result<Listed<Act>, Refusal>
-    ensures { IsFinished (does (image_acts out.now (empty_image geometry))) result }
+    ensures { IsFinished (does (written_and_told (name_of out.now) (empty_image geometry) (bytes_line (length (empty_image geometry))))) result }
 {
     let image = empty_image(alloc, geometry)?;
     Ok(image_acts(alloc, out, image)?)

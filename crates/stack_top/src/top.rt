@@ -30,9 +30,11 @@ fn refuse<O: Sink>(alloc: Global, out: &mut O, refusal: &Refusal) -> Status
 ///
 /// `mkimage OUT BLOCKS DIES` writes the image of an empty drive and prints `image bytes=N`; `asm SRC OUT`
 /// writes the object of an assembler text and prints `slots N`; `disasm OBJ` prints the text of an object
-/// and `verify OBJ` the line `accepted N`; `solo - SCRIPT -` prints the transcript of a script, and
-/// `check - SCRIPT TRANSCRIPT` whether a transcript is one that it may have. All other words are outside
-/// the grammar. `-` as OUT writes nothing. The last line of a refusal is printed as far as the sink takes it.
+/// and `verify OBJ` the line `accepted N`; `solo IMAGE SCRIPT OUT` prints the transcript of a script whose
+/// calls are made over an image's drive, and then writes the drive's image; `check IMAGE SCRIPT TRANSCRIPT`
+/// prints whether a transcript is one that the script may have there. All other words are outside the
+/// grammar. `-` as IMAGE is an empty drive, and `-` as OUT writes nothing. The last line of a refusal is
+/// printed as far as the sink takes it.
 pub fn stack_quiet<R: Room, O: Sink>(
     alloc: Global,
     words: &[String],
