@@ -1,0 +1,9 @@
+pub mod Outputs
+pub mod Keeping
+pub mod Listing
+pub mod Blocks
+pub mod Steps
+pub mod Readings
+pub mod Again
+pub mod Loaded
+pub mod Drawn

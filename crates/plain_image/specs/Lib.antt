@@ -1,0 +1,4 @@
+pub mod Fits
+pub mod Drives
+pub mod Image
+pub mod Tables
