@@ -1,5 +1,5 @@
 -- A call goes from one phase to another, and its job with it.
-use Rattle.std.proofs.Common.{◌≡◌, ℕ, zero, suc, ◌+◌, ◌%◌, ◌^◌, ◌<◌, ◌≤◌, Bool, true, false, List, [], ◌∷◌, ◌++◌, length, get_or, set, Option, Some, None, refl, sym, ap, ◌∙◌, subst, ⊎_elim, arith}
+use Rattle.std.proofs.Common.{◌≡◌, ℕ, zero, suc, ◌+◌, ◌<◌, ◌≤◌, Bool, true, false, List, [], ◌∷◌, ◌++◌, length, get_or, set, Option, Some, None, refl, sym, ap, ◌∙◌, subst, ⊎_elim, arith}
 use Rattle.std.specs.Prelude.{◌≢◌, is_some, unwrap_or}
 use Rattle.std.proofs.lemmas.List.{get_or-set_same, get_or-set_other, length-set}
 use Rattle.index_lists.specs.Words.{put, one_if, count, without, first}
@@ -11,7 +11,7 @@ use Rattle.flash_die.specs.Dies.{DieView}
 use Rattle.core_state.specs.declared.actor.Actor.TheVariants.{Lane as LaneActor, Worker, Closer}
 use Rattle.core_state.specs.declared.event.Event.{Event}
 use Rattle.core_state.specs.declared.event.Event.TheVariants.{Submit, Fetch, Report}
-use Rattle.core_state.specs.State.{Page, Phase, Held, Queued, Running, Reported, Flight, Core}
+use Rattle.core_state.specs.State.{Page, Phase, Held, Queued, Running, Reported, Flight}
 use Rattle.core_state.specs.Frames.{is_queued, in_queue}
 use Rattle.core_state.specs.PageEvents.{no_flight, flight_at}
 use Rattle.core_state.specs.LaneEvents.{in_phase, MaySubmit, MayFetch, MayReport, result_of as reported_of}

@@ -5,7 +5,7 @@ use Rattle.dispatcher.specs.declared.side.Side.{Side}
 use Rattle.dispatcher.specs.declared.side.Side.TheVariants.{Host, Drive}
 use Rattle.name_table.specs.declared.files.FileRec.{FileRec}
 use Rattle.index_lists.specs.Words.{put}
-use Rattle.index_lists.specs.Lists.{Lists, list_at}
+use Rattle.index_lists.specs.Lists.{list_at}
 use Rattle.flash_die.specs.Dies.{DieView, IsDie}
 use Rattle.turn_cell.specs.declared.book.Entry.{Entry}
 use Rattle.turn_cell.specs.History.{entry}
@@ -26,7 +26,6 @@ use Rattle.system_state.specs.Made.{counts_in, Made}
 use Rattle.system_state.specs.Stands.{Stands}
 use Rattle.system_state.specs.Noted.{told_more}
 use Rattle.system_state.specs.declared.told.Told.{Told}
-use Rattle.system_state.specs.declared.told.DieCounts.{DieCounts}
 use Rattle.system_state.specs.declared.state.State.{State}
 use Rattle.system_state.proofs.Standing.{stands_still}
 use Rattle.system_lanes.proofs.LaneRows.{lanes_kept}

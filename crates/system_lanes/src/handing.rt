@@ -1,14 +1,14 @@
-//! A call whose side is the drive goes into the queue, and to a worker.
+//! A call with a function goes into the queue, to a worker, and back to its lane.
 ghost use Rattle.std.specs.Prelude.{◌≡◌, ◌∷◌, ◌++◌, [], ℕ, List, IfOk, IfErr, Some};
 ghost use Rattle.index_lists.specs.Words.{first};
 ghost use Rattle.turn_cell.specs.declared.book.Entry.{Entry};
 ghost use Rattle.turn_cell.specs.History.{entry};
 ghost use Rattle.core_state.specs.declared.actor.Actor.TheVariants.{Lane, Worker};
 ghost use Rattle.core_state.specs.declared.event.Event.{Event};
-ghost use Rattle.core_state.specs.declared.event.Event.TheVariants.{Submit, Fetch};
+ghost use Rattle.core_state.specs.declared.event.Event.TheVariants.{Submit, Fetch, Report};
 ghost use Rattle.core_state.specs.State.{Flight, Queued, Running};
 ghost use Rattle.core_state.specs.PageEvents.{flight_at};
-ghost use Rattle.core_state.specs.LaneEvents.{MaySubmit, MayFetch};
+ghost use Rattle.core_state.specs.LaneEvents.{MaySubmit, MayFetch, MayReport, result_of};
 ghost use Rattle.core_state.specs.Happens.{HoldsNone};
 ghost use Rattle.system_state.specs.Cores.{core_of};
 ghost use Rattle.system_state.specs.Made.{Made};
@@ -20,7 +20,7 @@ ghost use Rattle.system_lanes.specs.Phases.{flight_in};
 
 use crate::attend::closing;
 use crate::flights::{put_job, set_phase, take_job};
-use crate::notes::{note_fetch, note_submit};
+use crate::notes::{note_fetch, note_report, note_result, note_submit};
 use core_state::Event;
 use flash_die::Die;
 use system_state::{CallJob, NotYet, Phase, State};
@@ -86,4 +86,21 @@ pub fn try_fetch<D: Die, J: CallJob>(
             closing: closing(state),
         }),
     }
+}
+
+/// A worker hands its call back, with the job. Its pages are gathered and its result is there, unless the call has a mark.
+pub fn report<D: Die, J: CallJob>(state: &mut State<D, J>, worker: u32, lane: u32, job: J)
+    requires standing { IsStanding D.seen J.suits state.old }
+    requires hands { HoldsNone (core_of D.seen state.old) (Worker worker) }
+    requires may { MayReport (core_of D.seen state.old) worker lane }
+    requires job { J.suits job (flight_in (core_of D.seen state.old) lane (result_of (core_of D.seen state.old) lane)) }
+    ensures made { Made D.seen J.suits state.old (Report worker lane) state.new }
+    ensures stands { (o : State D J) (h : List (Entry Event)) (n : ℕ) → Stands D.seen J.suits state.old o h →
+        Stands D.seen J.suits state.new o (h ++ entry n (Report worker lane) ∷ []) }
+{
+    let result = note_result(state, &lane);
+    set_phase(&mut state.calls, lane, Phase::Reported(result));
+    put_job(&mut state.jobs, lane, job);
+    state.told = note_report(&state.told, &worker, &lane);
+    state.made = state.made.wrapping_add(1);
 }
