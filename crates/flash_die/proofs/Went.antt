@@ -16,7 +16,7 @@ is_listed-beyond : (number : ℕ) (numbers : List ℕ) → All (λ n. n < number
 is_listed-beyond number numbers small = list_any_none (λ n. n == number) numbers (λ k d within. let low = small k d within in grind arith)
 
 -- one more call
-failed_of-next : (made : ℕ) (numbers : List ℕ) → made ≤ 2 ^ 32 → All (λ n. n < 2 ^ 32) numbers → failed_of (next_number made) numbers ≡ failed_of made numbers + (if is_listed (next_number made) numbers then 1 else 0)
+pub failed_of-next : (made : ℕ) (numbers : List ℕ) → made ≤ 2 ^ 32 → All (λ n. n < 2 ^ 32) numbers → failed_of (next_number made) numbers ≡ failed_of made numbers + (if is_listed (next_number made) numbers then 1 else 0)
 unfolding failed_of
 failed_of-next made numbers within small =
     elim (nat_lt made (2 ^ 32)) as (λ b. nat_lt made (2 ^ 32) ≡ b → failed_of (next_number made) numbers ≡ failed_of made numbers + (if is_listed (next_number made) numbers then 1 else 0)) [

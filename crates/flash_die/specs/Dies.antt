@@ -44,9 +44,14 @@ pub record IsPlan (plan : PlanView) : Type 0 where
   pub failing_reads : All (λ number. number < 2 ^ 32) plan.failing_reads
   pub failing_writes : All (λ number. number < 2 ^ 32) plan.failing_writes
 
--- what holds of every die
+-- each of the pages has 4,096 bytes
+abbrev pub AreWhole : List (List ℕ) → Type 0
+AreWhole pages = All (λ page. length page ≡ 4096) pages
+
+-- what holds of every die: as many pages are told as it has, and each of them is whole
 pub record IsDie (die : DieView) : Type 0 where
   pub whole : IfSome die.pages (λ pages. length pages ≡ die.size)
+  pub each_whole : IfSome die.pages AreWhole
   pub bounded : IfSome die.most (λ most. die.faults ≤ most)
   pub planned : IfSome die.plan IsPlan
 

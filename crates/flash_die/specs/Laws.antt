@@ -3,7 +3,7 @@ use Rattle.std.proofs.Common.{◌≡◌, ℕ, zero, suc, ◌+◌, ◌^◌, ◌<�
 use Rattle.std.specs.Prelude.{if◌then◌else◌, ◌==◌, ◌||◌}
 use Rattle.std.specs.List.{All}
 use Rattle.edge_io.specs.Memory.{is_listed}
-use Rattle.flash_die.specs.Dies.{PlanView, IsDie}
+use Rattle.flash_die.specs.Dies.{PlanView, AreWhole, IsDie}
 use Rattle.flash_die.specs.Failures.{failed_of, told_die}
 
 -- no number is listed
@@ -35,13 +35,15 @@ failed_of-one (suc made) number numbers =
       | false ↦ λ differ. omega (arith, failed_of-one made number numbers)
     ] refl
 
-failed_of-within : (made : ℕ) (numbers : List ℕ) → failed_of made numbers ≤ length numbers
+-- no more calls have failed than numbers are listed
+pub failed_of-within : (made : ℕ) (numbers : List ℕ) → failed_of made numbers ≤ length numbers
 failed_of-within made [] = omega (arith, failed_of-none made)
 failed_of-within made (number ∷ numbers) = omega (arith, failed_of-one made number numbers, failed_of-within made numbers)
 
-pub sound_die : (pages : List (List ℕ)) (plan : PlanView) → plan.reads ≤ 2 ^ 32 → plan.writes ≤ 2 ^ 32 → All (λ number. number < 2 ^ 32) plan.failing_reads → All (λ number. number < 2 ^ 32) plan.failing_writes → IsDie (told_die pages plan)
-sound_die pages plan reads writes failing_reads failing_writes = record {
+pub sound_die : (pages : List (List ℕ)) (plan : PlanView) → AreWhole pages → plan.reads ≤ 2 ^ 32 → plan.writes ≤ 2 ^ 32 → All (λ number. number < 2 ^ 32) plan.failing_reads → All (λ number. number < 2 ^ 32) plan.failing_writes → IsDie (told_die pages plan)
+sound_die pages plan each_whole reads writes failing_reads failing_writes = record {
   whole = refl;
+  each_whole = each_whole;
   bounded = omega (arith, failed_of-within plan.reads plan.failing_reads, failed_of-within plan.writes plan.failing_writes);
   planned = record { reads = reads; writes = writes; failing_reads = failing_reads; failing_writes = failing_writes };
 }

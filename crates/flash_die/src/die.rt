@@ -25,7 +25,7 @@ pub trait Die: Drop {
         requires { page < (seen self.old).size }
         ensures { WentWrite (seen self.old) page (is_ok result) from.now (seen self.new) };
 
-    /// What holds of every die: the number of pages is that of the pages told, the count never
-    /// passes its bound, and numbers of calls are of 32 bits.
+    /// What holds of every die: the number of pages is that of the pages told, each page told has
+    /// 4,096 bytes, the count never passes its bound, and numbers of calls are of 32 bits.
     ghost sound: { (die : Self) → IsDie (seen die) };
 }

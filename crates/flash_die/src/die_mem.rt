@@ -2,8 +2,9 @@
 ghost use Rattle.std.specs.Prelude.{◌≡◌, ◌<◌, ◌≤◌, ◌^◌, length};
 ghost use Rattle.std.specs.List.{All};
 ghost use Rattle.std.proofs.Props.{props};
+ghost use Rattle.flash_die.specs.Dies.{AreWhole};
 
-use crate::steps::{bounded, is_listed, next_number, spoil};
+use crate::steps::{bounded, is_listed, next_number, spoil, whole};
 use crate::{Die, Plan};
 use page_base::{DieFault, Page};
 
@@ -18,6 +19,7 @@ pub struct DieMem {
     reads: u64,
     writes: u64,
     ghost few: { length pages.items < 2 ^ 32 },
+    ghost each_whole: { AreWhole pages.items } by { Prim.hlevel props },
     ghost reads_end: { reads ≤ 2 ^ 32 },
     ghost writes_end: { writes ≤ 2 ^ 32 },
     ghost small_reads: { All (λ number. number < 2 ^ 32) failing_reads.items } by { Prim.hlevel props },
@@ -39,7 +41,7 @@ impl DieMem {
         } }
     {
         DieMem {
-            pages,
+            pages: whole(pages),
             failing_reads: bounded(plan.reads.into_vec()),
             failing_writes: bounded(plan.writes.into_vec()),
             reads: 0,
@@ -93,5 +95,5 @@ impl Die for DieMem {
         Ok(())
     }
 
-    ghost sound = { λ die. sound_die (pages_of die) (plan_of die) die.reads_end die.writes_end die.small_reads die.small_writes };
+    ghost sound = { λ die. sound_die (pages_of die) (plan_of die) die.each_whole die.reads_end die.writes_end die.small_reads die.small_writes };
 }

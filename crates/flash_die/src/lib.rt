@@ -9,6 +9,7 @@ mod steps;
 pub use die::Die;
 pub use die_mem::DieMem;
 pub use plan::Plan;
+pub use steps::{bounded, is_listed};
 
 #[cfg(test)]
 mod tests;

@@ -9,9 +9,10 @@ pub record RawView : Type 0 where
   pub faults : ℕ
   pub most : Option ℕ
 
--- what holds of all raw flash
+-- what holds of all raw flash: 64 pages for each block, and a programmed page has 4,096 bytes
 pub record IsRaw (raw : RawView) : Type 0 where
   pub whole : length raw.pages ≡ 64 * raw.blocks
+  pub each_whole : (page : ℕ) (bytes : List ℕ) → get_or raw.pages page None ≡ Some bytes → length bytes ≡ 4096
   pub few : raw.blocks < 2 ^ 26
   pub bounded : IfSome raw.most (λ most. raw.faults ≤ most)
 

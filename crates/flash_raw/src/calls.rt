@@ -1,9 +1,10 @@
 // The calls of one kind, and which of them fail.
 ghost use Rattle.std.specs.Prelude.{◌≡◌, ◌+◌, ◌<◌, ◌≤◌, ◌^◌, if◌then◌else◌};
 ghost use Rattle.std.specs.List.{All};
-ghost use Rattle.edge_io.specs.Memory.{is_listed};
 ghost use Rattle.flash_die.specs.Failures.{failed_of};
 ghost use Rattle.std.proofs.Props.{props};
+
+use flash_die::{bounded, is_listed};
 
 // The number at which the count of calls stays.
 const LAST_NUMBER: u64 = 1 << 32;
@@ -44,19 +45,4 @@ impl Calls {
         self.made = (self.made + 1).min(LAST_NUMBER);
         is_listed(self.made, &self.failing)
     }
-}
-
-// The numbers as they are: each has 32 bits.
-fn bounded(numbers: Vec<u32>) -> Vec<u32>
-    ensures same { result ≡ numbers }
-    ensures small { All (λ number. number < 2 ^ 32) result.items }
-{
-    numbers
-}
-
-// Whether a number is in the list.
-fn is_listed(number: u64, numbers: &[u32]) -> bool
-    ensures { result ≡ is_listed number numbers.now }
-{
-    numbers.iter().any(|&listed| u64::from(listed) == number)
 }

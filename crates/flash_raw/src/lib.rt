@@ -2,6 +2,7 @@
 #![tactic(auto)]
 
 mod calls;
+mod erasing;
 mod raw_flash;
 mod raw_mem;
 mod raw_page;

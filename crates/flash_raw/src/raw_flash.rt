@@ -33,6 +33,6 @@ pub trait RawFlash: Drop {
         ensures { RawErase (seen self.old) block (is_ok result) (seen self.new) };
 
     /// What holds of all raw flash: there are 64 pages for each block, and fewer than 2^26 blocks,
-    /// and the count never passes its bound.
+    /// a programmed page has 4,096 bytes, and the count never passes its bound.
     ghost sound: { (raw : Self) → IsRaw (seen raw) };
 }

@@ -4,7 +4,8 @@ ghost use Rattle.flash_die.specs.Failures.{failed_of};
 
 use crate::RawFlash;
 use crate::calls::Calls;
-use crate::raw_page::{RawPage, erase_pages, erased_pages};
+use crate::erasing::{erase_pages, erased_pages};
+use crate::raw_page::RawPage;
 use page_base::{DieFault, NoMemory, Page};
 use std::alloc::Global;
 

@@ -1,7 +1,5 @@
-// The pages of raw flash in memory.
-ghost use Rattle.std.specs.Prelude.{◌≡◌, length, replicate, map, Some, None, IfOk};
-ghost use Rattle.flash_die.specs.Failures.{spoilt_page};
-ghost use Rattle.flash_raw.specs.Memory.{shown};
+// A page of raw flash in memory.
+ghost use Rattle.std.specs.Prelude.{◌≡◌, length, Some, None, IfOk};
 
 use page_base::{NoMemory, Page};
 use std::alloc::Global;
@@ -11,9 +9,23 @@ use std::alloc::Global;
 pub struct RawPage {
     bytes: Page,
     programmed: bool,
+    ghost whole: { length bytes ≡ 4096 },
 }
 
 impl RawPage {
+    ghost use Rattle.flash_die.specs.Failures.{spoilt_page};
+    ghost use Rattle.flash_raw.specs.Memory.{shown};
+
+    /// An erased page.
+    pub fn erased(alloc: Global) -> Result<RawPage, NoMemory>
+        ensures { IfOk result (λ page. shown page ≡ None) }
+    {
+        Ok(RawPage {
+            bytes: Page::zero(alloc)?,
+            programmed: false,
+        })
+    }
+
     /// Its bytes.
     pub fn bytes(&self) -> &Page
         ensures { result.now ≡ self.now.bytes }
@@ -36,28 +48,11 @@ impl RawPage {
         self.bytes.patch(0, &[0xa5; 4096]);
         self.programmed = true;
     }
-}
 
-/// So many erased pages.
-pub fn erased_pages(alloc: Global, count: usize) -> Result<Vec<RawPage>, NoMemory>
-    ensures { IfOk result (λ pages. map shown pages.items ≡ replicate count None) }
-{
-    let mut pages = Vec::with_capacity(alloc, count)?;
-    for _ in 0..count {
-        let bytes = Page::zero(alloc)?;
-        pages.push(RawPage {
-            bytes,
-            programmed: false,
-        })?;
-    }
-    Ok(pages)
-}
-
-/// Erases the pages.
-pub fn erase_pages(pages: &mut [RawPage])
-    ensures { map shown pages.new ≡ replicate (length pages.old) None }
-{
-    for page in pages.iter_mut() {
-        page.programmed = false;
+    /// Erases it.
+    pub fn erase(&mut self)
+        ensures { shown self.new ≡ None }
+    {
+        self.programmed = false;
     }
 }

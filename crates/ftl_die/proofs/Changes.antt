@@ -305,3 +305,13 @@ spared_kept places used owners head spare page at inside there within before =
           let zero : one_in spare (At at) ≡ 0 = let apart : (at / 64 == spare) ≡ false = grind (arith, there, differ) in ap (λ (b : Bool). if b then 1 else 0) apart in
           omega (arith, free, sums, n, zero, before)
     ]
+
+-- and once a page was programmed there that is none of the die's
+pub spared_more : (places : List Place) (used : List ℕ) (owners : List (Option ℕ)) (head spare : ℕ) → head < length used → held_in owners + live_in spare places ≤ get_or used spare 0 → held_in owners + live_in spare places ≤ get_or (set used head (get_or used head 0 + 1)) spare 0
+spared_more places used owners head spare within before =
+    elim (cases_eq spare head) [
+      | inl same ↦
+          let n : get_or (set used head (get_or used head 0 + 1)) spare 0 ≡ get_or used spare 0 + 1 = rw same (get_or-set_same used head (get_or used head 0 + 1) 0 within) in
+          omega (arith, n, before)
+      | inr differ ↦ let n = get_or-set_other used head spare (get_or used head 0 + 1) 0 differ in omega (arith, n, before)
+    ]

@@ -1,7 +1,9 @@
 // The die over raw flash.
 ghost use Rattle.std.specs.Prelude.{◌≡◌, ◌+◌, ◌/◌, ◌<◌, ◌≤◌, ℕ, length, get_or, IfOk};
 ghost use Rattle.ftl_die.specs.Places.{live_in, held_in};
-ghost use Rattle.ftl_die.specs.Stored.{IsStored};
+ghost use Rattle.std.proofs.Props.{props};
+ghost use Rattle.flash_die.specs.Dies.{AreWhole};
+ghost use Rattle.ftl_die.specs.Stored.{IsStored, contents};
 
 use crate::collection::{hold_live, settle_all};
 use crate::layout::{BLOCK_PAGES, Layout};
@@ -34,6 +36,7 @@ pub struct FtlDie<R: RawFlash> {
     // An erase block with at least as many dead pages as there are pages in the buffer.
     spare: u32,
     ghost stored: { IsStored (R.seen raw) layout.places.items layout.used.items },
+    ghost each_whole: { AreWhole (contents (R.seen raw) slots.items layout.places.items) } by { Prim.hlevel props },
     ghost buffer: { length slots.items ≡ 64 },
     ghost head_in: { head < length layout.used.items },
     ghost spare_in: { spare < length layout.used.items },
@@ -181,7 +184,7 @@ impl<R: RawFlash> Die for FtlDie<R> {
         Ok(())
     }
 
-    ghost sound = { λ die. sound_ftl (R.seen die.raw) die.slots.items die.layout.places.items (R.sound die.raw) };
+    ghost sound = { λ die. sound_ftl (R.seen die.raw) die.slots.items die.layout.places.items (R.sound die.raw) die.each_whole };
 }
 
 impl FtlDie<RawMem> {

@@ -1,5 +1,5 @@
 // The pages that a die begins with.
-ghost use Rattle.std.specs.Prelude.{◌≡◌, ◌+◌, ◌/◌, ◌<◌, ◌≤◌, ◌^◌, length, replicate, Some, IfSome};
+ghost use Rattle.std.specs.Prelude.{◌≡◌, ◌+◌, ◌/◌, ◌<◌, ◌≤◌, ◌^◌, length, replicate, Some, IfSome, IfNone};
 ghost use Rattle.page_base.specs.Bytes.{zero_page};
 
 use crate::layout::BLOCK_PAGES;
@@ -12,7 +12,8 @@ const MAX_PAGES: usize = 1 << 31;
 /// How many erase blocks a die of so many pages has: an eighth more than they fill, and two; `None`
 /// for more than 2^31 pages.
 pub fn blocks_for(pages: usize) -> Option<u32>
-    ensures { IfSome result (λ blocks. (pages ≤ 2 ^ 31) × (blocks < 2 ^ 26) × ((pages + 63) / 64 + 2 ≤ blocks)) }
+    ensures none { IfNone result (2 ^ 31 < pages) }
+    ensures some { IfSome result (λ blocks. (pages ≤ 2 ^ 31) × (blocks < 2 ^ 26) × ((pages + 63) / 64 + 2 ≤ blocks)) }
 {
     if pages > MAX_PAGES {
         return None;

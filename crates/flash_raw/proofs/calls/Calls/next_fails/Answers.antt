@@ -1,7 +1,8 @@
 use Rattle.std.proofs.Common.{◌≡◌, arith}
 use Rattle.edge_io.specs.Memory.{is_listed}
 use Rattle.flash_die.specs.Dies.{next_number}
-use Rattle.flash_raw.proofs.Counting.{failed_of-made, failed_of-next}
+use Rattle.flash_die.proofs.Went.{failed_of-next}
+use Rattle.flash_raw.proofs.Counting.{failed_of-made}
 use Rattle.flash_raw.proofs.calls.Calls.next_fails.Goals as goal
 
 pub invariant_of-self-clause-counted : goal.invariant_of-self-clause-counted

@@ -1,9 +1,16 @@
-use Rattle.std.proofs.Common.{◌≡◌, ◌≤◌, ℕ, List, [], Some, ap, ◌∙◌, arith}
+use Rattle.std.proofs.Common.{◌≡◌, ◌≤◌, ℕ, List, [], map, Option, Some, ap, sym, subst, ◌∙◌, arith}
+use Rattle.flash_die.specs.Dies.{AreWhole}
 use Rattle.flash_raw.specs.Calls.{RawPlan, first_calls, faults_of, most_of}
 use Rattle.flash_raw.specs.Memory.{plan_of}
 use Rattle.flash_raw.specs.Laws.{sound_raw}
 use Rattle.flash_raw.proofs.Counting.{failed_of-first}
+use Rattle.ftl_die.specs.Stored.{content}
 use Rattle.ftl_die.proofs.ftl_die.FtlDie+RawMem.loaded.Goals as goal
+
+pub invariant_of-die-clause-each_whole : goal.invariant_of-die-clause-each_whole
+invariant_of-die-clause-each_whole c =
+    let die = c.load_pages.new.die in
+    subst (λ (p : List (Option (List ℕ))). AreWhole (map (content p die.slots.items) die.layout.places.items)) (sym c.arm.ensures.pages) die.each_whole
 
 pub returns-clause-plan : goal.returns-clause-plan
 returns-clause-plan c =

@@ -1,6 +1,7 @@
-use Rattle.std.proofs.Common.{◌≡◌, ◌<◌, true, [], length, get_or, refl, ap, sym, ◌∙◌, arith}
+use Rattle.std.proofs.Common.{◌≡◌, ◌<◌, ℕ, List, Option, true, [], length, map, get_or, refl, ap, sym, subst, ◌∙◌, arith}
 use Rattle.std.proofs.lemmas.List.{get_or_read}
 use Rattle.page_base.specs.Bytes.{zero_page}
+use Rattle.flash_die.specs.Dies.{AreWhole}
 use Rattle.ftl_die.specs.declared.place.Place.TheVariants.{Unwritten, Held}
 use Rattle.ftl_die.specs.Stored.{content}
 use Rattle.ftl_die.proofs.Changes.{slot-below}
@@ -23,6 +24,11 @@ returns-in-Unwritten g c =
     read_went raw raw die.slots.items die.layout.places.items c.args.page true c.args.into.now c.clear_from.new.self c.requires (counts_none raw) refl
     (λ _. c.clear_from.ensures.value ∙ sym (ap (content raw.pages die.slots.items) lies))
     (λ e. absurd (cc))
+
+pub invariant_of-self-clause-each_whole : goal.invariant_of-self-clause-each_whole
+invariant_of-self-clause-each_whole g c =
+    let die = c.args.self.now in
+    subst (λ (p : List (Option (List ℕ))). AreWhole (map (content p die.slots.items) die.layout.places.items)) (sym c.read.ensures.pages) die.each_whole
 
 pub returns-in-Held : goal.returns-in-Held
 returns-in-Held g c =
