@@ -3,7 +3,7 @@ use Rattle.std.proofs.Common.{◌≡◌, List, [], ◌∷◌, sym, ◌∙◌}
 use Rattle.core_state.specs.declared.event.Event.{Event}
 use Rattle.core_state.specs.State.{Core}
 use Rattle.core_state.specs.Happens.{CoreRun, after}
-use Rattle.core_state.specs.Solo.{after_all}
+use Rattle.core_state.specs.Happens.{after_all}
 
 pub leads_to : (events : List Event) (c0 c1 : Core) → CoreRun c0 events c1 → c1 ≡ after_all c0 events
 leads_to [] c0 c1 r = r

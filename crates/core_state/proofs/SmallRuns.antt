@@ -12,7 +12,7 @@ use Rattle.core_state.specs.State.{File, Names, Claim, Flight, Out, DieState}
 use Rattle.core_state.specs.Reach.{is_lambda, is_sync, file_for, function_for}
 use Rattle.core_state.specs.InFlight.{claim_of, claims, AreThere, Locked}
 use Rattle.core_state.specs.Happens.{CoreRun}
-use Rattle.core_state.specs.Solo.{after_all}
+use Rattle.core_state.specs.Happens.{after_all}
 use Rattle.std.specs.List.{Contains}
 use Rattle.dispatcher.specs.declared.side.Place.TheVariants.{Auto}
 use Rattle.core_state.specs.Coherent.{Coherent}

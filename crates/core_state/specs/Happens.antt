@@ -103,6 +103,11 @@ pub record Happens (c : Core) (e : Event) (c2 : Core) : Type 0 where
   pub may : May c e
   pub leaves : c2 ≡ after c e
 
+-- the core that a list of events leads to
+abbrev pub after_all : Core → List Event → Core
+after_all c [] = c
+after_all c (e ∷ es) = after_all (after c e) es
+
 -- the events lead from the first core to the last, one after the other
 abbrev pub CoreRun : Core → List Event → Core → Type 0
 CoreRun c [] c2 = c2 ≡ c

@@ -19,5 +19,4 @@ pub mod EndEvent
 pub mod Happens
 pub mod History
 pub mod Hold
-pub mod Solo
 pub mod SmallRun

@@ -6,7 +6,7 @@ ghost use Rattle.core_state.specs.State.{Core};
 ghost use Rattle.core_state.specs.Coherent.{Coherent};
 ghost use Rattle.core_state.specs.Opening.{Image, IsWhole, opening_core};
 ghost use Rattle.core_state.specs.Happens.{CoreRun};
-ghost use Rattle.core_state.specs.Solo.{after_all};
+ghost use Rattle.core_state.specs.Happens.{after_all};
 ghost use Rattle.core_state.specs.SmallRun.{small_core, small_events};
 
 /// A core and a list of events determine the core that they lead to.
