@@ -17,7 +17,7 @@ use Rattle.image_format.proofs.Marks.{written_length}
 use Rattle.image_format.proofs.Imaged.{meta_length}
 use Rattle.image_format.proofs.BitsAgain.{is_set_again}
 use Rattle.image_format.proofs.Remounting.{read_again, remounted}
-use Rattle.image_laws.specs.Pages.{bytes_of, encoded, data_in}
+use Rattle.image_laws.specs.Pages.{bytes_of, encoded, data_blocks}
 use Rattle.image_laws.proofs.Cutting.{front_joined, pages_joined, bytes_of-append, same_pages}
 use Rattle.image_laws.proofs.Readings.{read_so, body_is, body_length}
 use Rattle.image_laws.proofs.Whole.{Found, data_are, one_size, written_is, whole, valid, stands}
@@ -31,7 +31,7 @@ joined m blocks table sound size =
 
 -- ---- an image of version 1: its pages are those that are written
 
-first_pages : (bytes : List ℕ) (m : Meta) (all : List (List ℕ)) (f : Found bytes m all) → f.image.header.version ≡ 1 → all ≡ encoded m ++ data_in m all
+first_pages : (bytes : List ℕ) (m : Meta) (all : List (List ℕ)) (f : Found bytes m all) → f.image.header.version ≡ 1 → all ≡ encoded m ++ data_blocks m all
 first_pages bytes m all f version =
     let h = f.image.header in
     f.is.pages
@@ -39,9 +39,9 @@ first_pages bytes m all f version =
     ∙ ap (λ n. map (meta_page m) (range_with_len 0 (meta_pages n)) ++ pages_from f.image.body h.blocks) (sym f.is.blocks)
     ∙ ap (λ xs. encoded m ++ xs) (sym (data_are bytes m all f))
 
-first_bytes : (bytes : List ℕ) (m : Meta) (all : List (List ℕ)) (f : Found bytes m all) → IsTable m.names → IsSound m.extents → f.image.header.version ≡ 1 → bytes_of all ≡ image_bytes m (data_in m all)
+first_bytes : (bytes : List ℕ) (m : Meta) (all : List (List ℕ)) (f : Found bytes m all) → IsTable m.names → IsSound m.extents → f.image.header.version ≡ 1 → bytes_of all ≡ image_bytes m (data_blocks m all)
 first_bytes bytes m all f table sound version =
-    ap bytes_of (first_pages bytes m all f version) ∙ joined m (data_in m all) table sound (one_size bytes m all f)
+    ap bytes_of (first_pages bytes m all f version) ∙ joined m (data_blocks m all) table sound (one_size bytes m all f)
 
 -- ---- an image of version 2: its pages are itself
 
@@ -67,7 +67,7 @@ same bytes m all f drive table sound = ⊎_elim first (λ version. ap mounts_to 
     first : f.image.header.version ≡ 1 → mounts_to (bytes_of all) ≡ mounts_to bytes
     first version =
         ap mounts_to (first_bytes bytes m all f table sound version)
-        ∙ remounted m (data_in m all) (valid bytes m all f drive table sound) (whole bytes m all f)
+        ∙ remounted m (data_blocks m all) (valid bytes m all f drive table sound) (whole bytes m all f)
         ∙ sym (stands bytes m all f sound)
 
 -- ---- and to the same meta data and pages
@@ -100,14 +100,14 @@ own_again m blocks table sound size =
     same_pages (data_page (meta_bytes m ++ bytes_of blocks)) (meta_page m) 0 n
     (λ k lt. part_left (meta_bytes m) (bytes_of blocks) (4096 * k) 4096 (omega (arith, lt, meta_length m table sound size)))
 
-again_first : (bytes : List ℕ) (m : Meta) (all : List (List ℕ)) (f : Found bytes m all) → IsTable m.names → IsSound m.extents → f.image.header.version ≡ 1 → IsMounted (image_bytes m (data_in m all)) (image_again m (data_in m all)) m all
+again_first : (bytes : List ℕ) (m : Meta) (all : List (List ℕ)) (f : Found bytes m all) → IsTable m.names → IsSound m.extents → f.image.header.version ≡ 1 → IsMounted (image_bytes m (data_blocks m all)) (image_again m (data_blocks m all)) m all
 again_first bytes m all f table sound version =
     let i = f.image in
     let n = m.geometry.blocks in
     let size = one_size bytes m all f in
     let is = whole bytes m all f in
-    let body : bytes_of (data_in m all) ≡ i.body = ap bytes_of (data_are bytes m all f) ∙ pages_joined i.body i.header.blocks (body_length bytes i (read_so bytes i f.read)) in
-    let kept : pages_from (bytes_of (data_in m all)) n ≡ data_in m all = ap (λ xs. pages_from xs n) body ∙ ap (pages_from i.body) f.is.blocks ∙ sym (data_are bytes m all f) in
+    let body : bytes_of (data_blocks m all) ≡ i.body = ap bytes_of (data_are bytes m all f) ∙ pages_joined i.body i.header.blocks (body_length bytes i (read_so bytes i f.read)) in
+    let kept : pages_from (bytes_of (data_blocks m all)) n ≡ data_blocks m all = ap (λ xs. pages_from xs n) body ∙ ap (pages_from i.body) f.is.blocks ∙ sym (data_are bytes m all f) in
     record {
       blocks = refl;
       dies = refl;
@@ -119,8 +119,8 @@ again_first bytes m all f table sound version =
       written = written_again m size;
       pages =
           first_pages bytes m all f version
-          ∙ ap (λ xs. xs ++ data_in m all) (sym (own_again m (data_in m all) table sound size))
-          ∙ ap (λ xs. pages_from (image_bytes m (data_in m all)) (meta_pages n) ++ xs) (sym kept);
+          ∙ ap (λ xs. xs ++ data_blocks m all) (sym (own_again m (data_blocks m all) table sound size))
+          ∙ ap (λ xs. pages_from (image_bytes m (data_blocks m all)) (meta_pages n) ++ xs) (sym kept);
     }
 
 pub again : (bytes : List ℕ) (m : Meta) (all : List (List ℕ)) (f : Found bytes m all) → IsDrive m.geometry.blocks m.geometry.dies → IsTable m.names → IsSound m.extents → Mounts bytes m all (read_image bytes) → Mounts (bytes_of all) m all (read_image (bytes_of all))
@@ -128,7 +128,7 @@ again bytes m all f drive table sound is = ⊎_elim first (λ version. subst (λ
   where
     first : f.image.header.version ≡ 1 → Mounts (bytes_of all) m all (read_image (bytes_of all))
     first version =
-        let blocks = data_in m all in
+        let blocks = data_blocks m all in
         let read : read_image (image_bytes m blocks) ≡ Ok (image_again m blocks) = read_again m blocks (valid bytes m all f drive table sound) (whole bytes m all f) in
         subst (λ (b : List ℕ). Mounts b m all (read_image b)) (sym (first_bytes bytes m all f table sound version))
         (subst (Mounts (image_bytes m blocks) m all) (sym read) (again_first bytes m all f table sound version))

@@ -7,7 +7,7 @@ use Rattle.std.proofs.Math.Nat.{zero-div}
 use Rattle.std.proofs.lemmas.List.{drop_at, length-map, length-take, get_or_past}
 use Rattle.std.proofs.lemmas.List.FromFn.{get_or-map-range_with_len}
 use Rattle.page_base.specs.Bytes.{Pages}
-use Rattle.page_base.specs.Drive.{IsDrive, meta_pages}
+use Rattle.page_base.specs.Drive.{IsDrive, meta_pages, total_pages}
 use Rattle.name_table.specs.Files.{IsTable}
 use Rattle.extent_map.specs.declared.places.Place.{Place}
 use Rattle.extent_map.specs.Places.{IsSound, pages_on, is_used}
@@ -25,7 +25,7 @@ use Rattle.image_format.proofs.Areas.{length_range}
 use Rattle.image_format.proofs.Marks.{written_length}
 use Rattle.image_format.proofs.Steps.{ok_bind}
 use Rattle.image_format.proofs.BitsAgain.{used_any}
-use Rattle.image_laws.specs.Pages.{data_in}
+use Rattle.image_laws.specs.Pages.{data_blocks}
 use Rattle.image_laws.proofs.Steps.{none_in_range, none_at_all}
 use Rattle.image_laws.proofs.Cutting.{pages_whole, pages_count, block_is}
 use Rattle.image_laws.proofs.Readings.{read_so, body_length, all_pages, no_stray, no_tails}
@@ -52,11 +52,20 @@ own_count version blocks bytes m =
     ]
 
 -- the pages behind those of meta data
-pub data_are : (bytes : List ℕ) (m : Meta) (all : List (List ℕ)) (f : Found bytes m all) → data_in m all ≡ pages_from f.image.body f.image.header.blocks
+pub data_are : (bytes : List ℕ) (m : Meta) (all : List (List ℕ)) (f : Found bytes m all) → data_blocks m all ≡ pages_from f.image.body f.image.header.blocks
 data_are bytes m all f =
     let h = f.image.header in
     ap (drop (meta_pages m.geometry.blocks)) f.is.pages
     ∙ drop_at (own_pages h.version h.blocks bytes m) (pages_from f.image.body h.blocks) (meta_pages m.geometry.blocks) (own_count h.version h.blocks bytes m ∙ ap meta_pages (sym f.is.blocks))
+
+pub total : (bytes : List ℕ) (m : Meta) (all : List (List ℕ)) (f : Found bytes m all) → length all ≡ total_pages m.geometry.blocks
+total bytes m all f =
+    let h = f.image.header in
+    ap length f.is.pages
+    ∙ length-append (own_pages h.version h.blocks bytes m) (pages_from f.image.body h.blocks)
+    ∙ ap (λ n. n + length (pages_from f.image.body h.blocks)) (own_count h.version h.blocks bytes m)
+    ∙ ap (λ n. meta_pages h.blocks + n) (pages_count f.image.body h.blocks)
+    ∙ ap total_pages (sym f.is.blocks)
 
 pub one_size : (bytes : List ℕ) (m : Meta) (all : List (List ℕ)) (f : Found bytes m all) → IsOneSize m
 one_size bytes m all f =
@@ -165,7 +174,7 @@ ends_all : (m : Meta) (i : Image) (ss : List Share) → m.written ≡ written_in
 ends_all m i [] written all = tt
 ends_all m i (s ∷ ss) written all = (ends_one m i s written all.0, ends_all m i ss written all.1)
 
-ends : (bytes : List ℕ) (m : Meta) (all : List (List ℕ)) (f : Found bytes m all) → AllByRecursion (λ s. goes_on m (data_in m all) s ≡ false) (shares (stored_files m.names) (blocks_in m.extents))
+ends : (bytes : List ℕ) (m : Meta) (all : List (List ℕ)) (f : Found bytes m all) → AllByRecursion (λ s. goes_on m (data_blocks m all) s ≡ false) (shares (stored_files m.names) (blocks_in m.extents))
 ends bytes m all f =
     let i = f.image in
     let none = none_at_all (has_tail i.bits i.body) (shares i.files i.blocks) (no_tails i.bits i.body (shares i.files i.blocks) (read_so bytes i f.read).tails) in
@@ -175,7 +184,7 @@ ends bytes m all f =
 
 -- ---- all of it
 
-pub whole : (bytes : List ℕ) (m : Meta) (all : List (List ℕ)) (f : Found bytes m all) → IsWhole m (data_in m all)
+pub whole : (bytes : List ℕ) (m : Meta) (all : List (List ℕ)) (f : Found bytes m all) → IsWhole m (data_blocks m all)
 whole bytes m all f =
     record {
       size = one_size bytes m all f;
@@ -186,7 +195,7 @@ whole bytes m all f =
       ends = ends bytes m all f;
     }
 
-pub valid : (bytes : List ℕ) (m : Meta) (all : List (List ℕ)) (f : Found bytes m all) → IsDrive m.geometry.blocks m.geometry.dies → IsTable m.names → IsSound m.extents → IsValid m (data_in m all)
+pub valid : (bytes : List ℕ) (m : Meta) (all : List (List ℕ)) (f : Found bytes m all) → IsDrive m.geometry.blocks m.geometry.dies → IsTable m.names → IsSound m.extents → IsValid m (data_blocks m all)
 valid bytes m all f drive table sound =
     record {
       drive = drive;
@@ -233,7 +242,7 @@ content_same m i blocks b written lt =
     ∙ ap (λ t. cond t (get_or (pages_from i.body blocks) b []) (replicate 4096 0)) (written_is blocks i.bits b lt)
     ∙ ap (λ page. cond (is_set i.bits b) page (replicate 4096 0)) (block_is i.body blocks b lt)
 
-stands_so : (bytes : List ℕ) (m : Meta) (all : List (List ℕ)) (f : Found bytes m all) → IsSound m.extents → stands_for m (data_in m all) ≡ mounted f.image
+stands_so : (bytes : List ℕ) (m : Meta) (all : List (List ℕ)) (f : Found bytes m all) → IsSound m.extents → stands_for m (data_blocks m all) ≡ mounted f.image
 stands_so bytes m all f sound =
     let i = f.image in
     let blocks = i.header.blocks in
@@ -248,6 +257,6 @@ stands_so bytes m all f sound =
     of : List File → ℕ → Mounted
     of files next = record { files = files; next = next }
 
-pub stands : (bytes : List ℕ) (m : Meta) (all : List (List ℕ)) (f : Found bytes m all) → IsSound m.extents → mounts_to bytes ≡ Ok (stands_for m (data_in m all))
+pub stands : (bytes : List ℕ) (m : Meta) (all : List (List ℕ)) (f : Found bytes m all) → IsSound m.extents → mounts_to bytes ≡ Ok (stands_for m (data_blocks m all))
 unfolding mounts_to
 stands bytes m all f sound = ok_bind (read_image bytes) f.image _ f.read ∙ ap (λ x. Ok x) (sym (stands_so bytes m all f sound))

@@ -14,5 +14,5 @@ abbrev pub encoded : Meta → List (List ℕ)
 encoded m = map (meta_page m) (range_with_len 0 (meta_pages m.geometry.blocks))
 
 -- of all pages of a drive, the data blocks: those behind the meta data
-abbrev pub data_in : Meta → List (List ℕ) → List (List ℕ)
-data_in m all = drop (meta_pages m.geometry.blocks) all
+abbrev pub data_blocks : Meta → List (List ℕ) → List (List ℕ)
+data_blocks m all = drop (meta_pages m.geometry.blocks) all
