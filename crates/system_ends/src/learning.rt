@@ -58,8 +58,9 @@ pub fn learn_run(functions: &mut Vec<Function>, ran: Option<Name>, used: u64, pa
     ensures kept { AreFunctions functions.new.items }
     ensures room { vec_capacity functions.new ≡ vec_capacity functions.old }
 {
-    let Some(name) = ran else {
-        return;
+    let name = match ran {
+        None => return,
+        Some(name) => name,
     };
     teach_named(functions, &name, used, pages);
 }

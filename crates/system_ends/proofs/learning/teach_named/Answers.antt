@@ -2,7 +2,7 @@ use Rattle.std.proofs.Common.{◌≡◌, ℕ, ◌<◌, List, length, length-set,
 use Rattle.system_state.specs.Cores.{function_of}
 use Rattle.system_state.specs.declared.state.Function.{Function as Row}
 use Rattle.system_ends.specs.Landed.{taught}
-use Rattle.system_ends.proofs.Learning.{first_changed, changed-none, changed-more, changed-all, all_taught, functions_stay, row_priced}
+use Rattle.system_ends.proofs.Taught.{first_changed, changed-none, changed-more, changed-all, all_taught, functions_stay, row_priced}
 use Rattle.system_ends.proofs.learning.teach_named.Goals as goal
 
 pub loop-i-init : goal.loop-i-init
@@ -29,4 +29,8 @@ loop-i-preserved c =
     }
 
 pub returns-clause-learnt : goal.returns-clause-learnt
-returns-clause-learnt c = ?
+returns-clause-learnt c =
+    let first = c.args.functions.now.items in
+    let f = taught c.args.name.now c.args.used c.args.pages in
+    let e : c.loop-i.i ≡ length first = omega (arith, c.loop-i-test.false, c.loop-i.auto.i-end, c.len-i-end.ensures, c.args.functions.now.ok.0) in
+    ap (map function_of) c.loop-i.invariant.rows ∙ (ap (λ (n : ℕ). map function_of (first_changed n f first)) e ∙ (ap (map function_of) (changed-all f first) ∙ all_taught c.args.name.now c.args.used c.args.pages first))

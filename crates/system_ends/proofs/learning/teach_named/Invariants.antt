@@ -2,7 +2,7 @@ use Rattle.std.proofs.Common.{◌≡◌, length}
 use Rattle.std.specs.Prelude.{vec_capacity}
 use Rattle.system_state.specs.Kept.{AreFunctions}
 use Rattle.system_ends.specs.Landed.{taught}
-use Rattle.system_ends.proofs.Learning.{first_changed}
+use Rattle.system_ends.proofs.Taught.{first_changed}
 use Rattle.system_ends.proofs.learning.teach_named.Given as goal
 
 abbrev pub invariant-loop-i : goal.invariant-loop-i
