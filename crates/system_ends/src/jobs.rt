@@ -56,10 +56,7 @@ pub fn take_reported<D: Die, J: CallJob>(state: &mut State<D, J>, lane: u32) -> 
 }
 
 /// The jobs where a call is held, which has left none.
-pub fn jobs_held<D: Die, J: CallJob>(
-    state: &State<D, J>,
-    lane: u32,
-) -> Snapshot<Vec<Option<J>>>
+pub fn jobs_held<D: Die, J: CallJob>(state: &State<D, J>, lane: u32) -> Snapshot<Vec<Option<J>>>
     requires standing { IsStanding D.seen J.suits state.now }
     requires held { (flight_at (core_of D.seen state.now).calls lane).phase ≡ Held }
     ensures jobs { result.value ≡ state.now.jobs }
