@@ -1,5 +1,5 @@
 -- That a span is low: its pages are those below 2^17, and where it has none it counts as beginning at 0.
-use Rattle.std.proofs.Common.{◌≡◌, ℕ, zero, suc, ◌+◌, ◌-◌, ◌*◌, ◌/◌, ◌<◌, ◌≤◌, ◌^◌, Bool, true, false, length, Option, Some, None, refl, sym, ap, ◌∙◌, subst, arith}
+use Rattle.std.proofs.Common.{◌≡◌, ℕ, zero, suc, ◌+◌, ◌-◌, ◌/◌, ◌<◌, ◌≤◌, ◌^◌, Bool, true, false, length, Option, Some, None, refl, sym, ap, subst, arith}
 use Rattle.std.specs.Prelude.{◌==◌, nat_lt, min, if◌then◌else◌}
 use Rattle.std.proofs.lemmas.Bool.Decides.{nat_tests}
 use Rattle.page_base.specs.Bytes.{Pages}
@@ -7,11 +7,11 @@ use Rattle.plain_files.specs.declared.calls.Call.{Call}
 use Rattle.plain_files.specs.declared.calls.Call.TheVariants.{Create, OpenFile, Stat, Remove, Read, Write, Append, Trunc, Seal, Load, Unload, Readl, Writel, Sync}
 use Rattle.plain_files.specs.declared.calls.Reply.{Reply}
 use Rattle.plain_files.specs.declared.calls.Reply.TheVariants.{TooLong}
-use Rattle.plain_files.specs.Plain.{State, is_too_long, lacks_file, lacks_function, is_append_only, end_of, early}
+use Rattle.plain_files.specs.Plain.{State, is_too_long, early}
 use Rattle.core_state.specs.State.{Shape, Block, File, Names, Places, Shared, Exclusive, Reach, Claim, Flight, Core}
 use Rattle.core_state.specs.PlainOf.{plain}
-use Rattle.core_state.specs.Reach.{no_reach, reach_of, read_reach, write_reach, trunc_reach, file_for, file_word, len_or_none}
-use Rattle.core_state.specs.InFlight.{InRange, IsRight, claim_of}
+use Rattle.core_state.specs.Reach.{no_reach, reach_of, read_reach, write_reach, file_for, file_word, len_or_none}
+use Rattle.core_state.specs.InFlight.{IsRight, claim_of}
 use Rattle.core_state.specs.Placed.{Placed, HavePlaces}
 use Rattle.core_state.specs.Coherent.{Coherent}
 use Rattle.core_lemmas.proofs.Spans.{span_in, pages_fit, file_in}

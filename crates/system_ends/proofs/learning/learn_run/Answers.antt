@@ -1,4 +1,4 @@
-use Rattle.std.proofs.Common.{◌≡◌, List, ℕ, Option, None, map, sym, ap, ◌∙◌}
+use Rattle.std.proofs.Common.{List, ℕ, Option, map, sym, ap, ◌∙◌}
 use Rattle.core_state.specs.Sides.{learnt}
 use Rattle.system_state.specs.Cores.{function_of}
 use Rattle.system_ends.proofs.Taught.{learns_none}

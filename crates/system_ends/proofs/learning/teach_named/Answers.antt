@@ -1,4 +1,4 @@
-use Rattle.std.proofs.Common.{◌≡◌, ℕ, ◌<◌, List, length, length-set, map, get_or, set, Some, refl, sym, ap, ◌∙◌, subst, arith}
+use Rattle.std.proofs.Common.{◌≡◌, ℕ, ◌<◌, List, length, length-set, map, get_or, set, refl, sym, ap, ◌∙◌, arith}
 use Rattle.system_state.specs.Cores.{function_of}
 use Rattle.system_state.specs.declared.state.Function.{Function as Row}
 use Rattle.system_ends.specs.Landed.{taught}
