@@ -1,0 +1,7 @@
+pub mod Placed
+pub mod Opened
+pub mod Encodes
+pub mod Files
+pub mod Wholes
+pub mod Mounts
+pub mod Openings

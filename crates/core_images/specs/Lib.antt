@@ -1,0 +1,3 @@
+pub mod Encode
+pub mod Started
+pub mod Tables

@@ -1,0 +1,55 @@
+//! Laws, each the contract of a function that takes and gives nothing.
+ghost use Rattle.std.specs.Prelude.{◌≡◌, ◌<◌, ℕ, List, [], None, Ok, slice_index_or};
+ghost use Rattle.page_base.specs.Drive.{total_pages};
+ghost use Rattle.dispatcher.specs.declared.side.Place.{Place};
+ghost use Rattle.extent_map.specs.Places.{IsSound};
+ghost use Rattle.name_table.specs.Files.{IsTable};
+ghost use Rattle.image_format.specs.declared.meta.Meta.{Meta};
+ghost use Rattle.image_format.specs.Encoding.{image_bytes};
+ghost use Rattle.image_format.specs.Image.{mounts_to, read_image};
+ghost use Rattle.image_format.specs.Tables.{Mounts};
+ghost use Rattle.core_state.specs.Coherent.{Coherent};
+ghost use Rattle.core_state.specs.Contents.{flashes};
+ghost use Rattle.core_state.specs.Opening.{opening_core};
+ghost use Rattle.core_state.specs.PlainOf.{plain};
+ghost use Rattle.core_state.specs.State.{Page, Core};
+ghost use Rattle.core_state.specs.Words.{from_fn};
+ghost use Rattle.core_solo.specs.Alone.{IsEncoding};
+ghost use Rattle.core_solo.specs.Stored.{IsOfDrive, IsAllStored};
+ghost use Rattle.system_state.specs.Settled.{mounted_of, flash_bytes, IsSettled};
+ghost use Rattle.core_images.specs.Encode.{encode};
+ghost use Rattle.core_images.specs.Started.{image_in};
+ghost use Rattle.core_images.specs.Tables.{HasTables};
+
+/// The meta pages that a core has are pages of 4,096 bytes, and tell of its geometry, files, places and written flags alone: what the run of one
+/// thread asks of them.
+pub fn encodes_pages()
+    ensures pages { IsEncoding encode }
+    ensures drive { IsOfDrive encode }
+{}
+
+/// In a coherent core with tables, of which every block is clean and every meta page is stored, the pages of flash, joined in the order of
+/// the image, are the image of these tables and of its data blocks; and they mount to the files and the next id of its plain state. Where no
+/// call is in flight and all dies are at home, the core is settled.
+pub fn stored_core_mounts()
+    ensures image { (m : Meta) (c : Core) → HasTables m c → IsTable m.names → IsSound m.extents → Coherent c → IsAllStored encode c →
+        flash_bytes c ≡ image_bytes m (from_fn m.geometry.blocks (flashes c.blocks)) }
+    ensures mounts { (m : Meta) (c : Core) → HasTables m c → IsTable m.names → IsSound m.extents → Coherent c → IsAllStored encode c →
+        mounts_to (flash_bytes c) ≡ Ok (mounted_of (plain c)) }
+    ensures settled { (m : Meta) (c : Core) → HasTables m c → IsTable m.names → IsSound m.extents → Coherent c → IsAllStored encode c →
+        ((lane : ℕ) → c.calls lane ≡ None) → ((die : ℕ) → (c.dies die).out ≡ None) → IsSettled c }
+{}
+
+/// The opening core of an image that was mounted has the tables that it was mounted to, and its plain state the files and the next id that
+/// the image says, no function, and as many blocks as capacity as the drive has data blocks. `pages` are the pages that the dies have.
+pub fn opening_is_mounted()
+    ensures mounts { (bytes : List ℕ) (m : Meta) (all : List Page) (pages : ℕ → Page) (lanes : ℕ) (place : Place) → IsTable m.names → IsSound m.extents →
+        Mounts bytes m all (read_image bytes) → ((p : ℕ) → p < total_pages m.geometry.blocks → pages p ≡ slice_index_or all p []) →
+        mounts_to bytes ≡ Ok (mounted_of (plain (opening_core (image_in m pages) lanes place))) }
+    ensures tables { (bytes : List ℕ) (m : Meta) (all : List Page) (pages : ℕ → Page) (lanes : ℕ) (place : Place) →
+        Mounts bytes m all (read_image bytes) → ((p : ℕ) → p < total_pages m.geometry.blocks → pages p ≡ slice_index_or all p []) →
+        HasTables m (opening_core (image_in m pages) lanes place) }
+    ensures functions { (m : Meta) (pages : ℕ → Page) (lanes : ℕ) (place : Place) → (plain (opening_core (image_in m pages) lanes place)).functions ≡ [] }
+    ensures capacity { (m : Meta) (pages : ℕ → Page) (lanes : ℕ) (place : Place) →
+        (plain (opening_core (image_in m pages) lanes place)).capacity ≡ m.geometry.blocks }
+{}
