@@ -5,3 +5,4 @@ pub mod Files
 pub mod Wholes
 pub mod Mounts
 pub mod Openings
+pub mod States

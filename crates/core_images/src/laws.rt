@@ -16,10 +16,16 @@ ghost use Rattle.core_state.specs.State.{Page, Core};
 ghost use Rattle.core_state.specs.Words.{from_fn};
 ghost use Rattle.core_solo.specs.Alone.{IsEncoding};
 ghost use Rattle.core_solo.specs.Stored.{IsOfDrive, IsAllStored};
-ghost use Rattle.system_state.specs.Settled.{mounted_of, flash_bytes, IsSettled};
+ghost use Rattle.system_state.specs.Cores.{core_of};
+ghost use Rattle.system_state.specs.Settled.{mounted_of, flash_bytes, IsSettled, Settled};
+ghost use Rattle.system_state.specs.Stands.{IsStanding};
+ghost use Rattle.system_state.specs.declared.state.State.{State};
 ghost use Rattle.core_images.specs.Encode.{encode};
 ghost use Rattle.core_images.specs.Started.{image_in};
 ghost use Rattle.core_images.specs.Tables.{HasTables};
+
+use flash_die::Die;
+use system_state::CallJob;
 
 /// The meta pages that a core has are pages of 4,096 bytes, and tell of its geometry, files, places and written flags alone: what the run of one
 /// thread asks of them.
@@ -52,4 +58,12 @@ pub fn opening_is_mounted()
     ensures functions { (m : Meta) (pages : ℕ → Page) (lanes : ℕ) (place : Place) → (plain (opening_core (image_in m pages) lanes place)).functions ≡ [] }
     ensures capacity { (m : Meta) (pages : ℕ → Page) (lanes : ℕ) (place : Place) →
         (plain (opening_core (image_in m pages) lanes place)).capacity ≡ m.geometry.blocks }
+{}
+
+/// The core of a state that stands for some history has the tables of that state; so a state of which all is stored, without a call in flight
+/// and with all dies at home, is settled.
+pub fn stored_states_settle<D: Die, J: CallJob>()
+    ensures tables { (s : State D J) → IsStanding D.seen J.suits s → HasTables s.meta (core_of D.seen s) }
+    ensures settled { (s : State D J) → IsStanding D.seen J.suits s → IsTable s.meta.names → IsSound s.meta.extents → IsAllStored encode (core_of D.seen s) →
+        ((lane : ℕ) → (core_of D.seen s).calls lane ≡ None) → ((die : ℕ) → ((core_of D.seen s).dies die).out ≡ None) → Settled D.seen s }
 {}
