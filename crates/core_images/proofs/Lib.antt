@@ -1,5 +1,6 @@
 pub mod Placed
 pub mod Opened
+pub mod OpenedWhole
 pub mod Encodes
 pub mod Files
 pub mod Wholes

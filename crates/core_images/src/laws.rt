@@ -1,6 +1,6 @@
 //! Laws, each the contract of a function that takes and gives nothing.
-ghost use Rattle.std.specs.Prelude.{◌≡◌, ◌<◌, ℕ, List, [], None, Ok, slice_index_or};
-ghost use Rattle.page_base.specs.Drive.{total_pages};
+ghost use Rattle.std.specs.Prelude.{◌≡◌, ◌<◌, ℕ, List, [], length, None, Ok, slice_index_or};
+ghost use Rattle.page_base.specs.Drive.{IsDrive, total_pages};
 ghost use Rattle.dispatcher.specs.declared.side.Place.{Place};
 ghost use Rattle.extent_map.specs.Places.{IsSound};
 ghost use Rattle.name_table.specs.Files.{IsTable};
@@ -8,6 +8,7 @@ ghost use Rattle.image_format.specs.declared.meta.Meta.{Meta};
 ghost use Rattle.image_format.specs.Encoding.{image_bytes};
 ghost use Rattle.image_format.specs.Image.{mounts_to, read_image};
 ghost use Rattle.image_format.specs.Tables.{Mounts};
+ghost use Rattle.image_format.specs.Whole.{IsWhole, stands_for};
 ghost use Rattle.core_state.specs.Coherent.{Coherent};
 ghost use Rattle.core_state.specs.Contents.{flashes};
 ghost use Rattle.core_state.specs.Opening.{opening_core};
@@ -21,7 +22,7 @@ ghost use Rattle.system_state.specs.Settled.{mounted_of, flash_bytes, IsSettled,
 ghost use Rattle.system_state.specs.Stands.{IsStanding};
 ghost use Rattle.system_state.specs.declared.state.State.{State};
 ghost use Rattle.core_images.specs.Encode.{encode};
-ghost use Rattle.core_images.specs.Started.{image_in};
+ghost use Rattle.core_images.specs.Started.{image_in, data_in};
 ghost use Rattle.core_images.specs.Tables.{HasTables};
 
 use flash_die::Die;
@@ -46,18 +47,27 @@ pub fn stored_core_mounts()
         ((lane : ℕ) → c.calls lane ≡ None) → ((die : ℕ) → (c.dies die).out ≡ None) → IsSettled c }
 {}
 
-/// The opening core of an image that was mounted has the tables that it was mounted to, and its plain state the files and the next id that
-/// the image says, no function, and as many blocks as capacity as the drive has data blocks. `pages` are the pages that the dies have.
-pub fn opening_is_mounted()
-    ensures mounts { (bytes : List ℕ) (m : Meta) (all : List Page) (pages : ℕ → Page) (lanes : ℕ) (place : Place) → IsTable m.names → IsSound m.extents →
-        Mounts bytes m all (read_image bytes) → ((p : ℕ) → p < total_pages m.geometry.blocks → pages p ≡ slice_index_or all p []) →
-        mounts_to bytes ≡ Ok (mounted_of (plain (opening_core (image_in m pages) lanes place))) }
-    ensures tables { (bytes : List ℕ) (m : Meta) (all : List Page) (pages : ℕ → Page) (lanes : ℕ) (place : Place) →
-        Mounts bytes m all (read_image bytes) → ((p : ℕ) → p < total_pages m.geometry.blocks → pages p ≡ slice_index_or all p []) →
-        HasTables m (opening_core (image_in m pages) lanes place) }
+/// The opening core of tables and data blocks that are whole has these tables, and its plain state the files and the next id that they stand
+/// for, no function, and as many blocks as capacity as the drive has data blocks. `pages` are the pages that the dies have.
+pub fn opening_stands()
+    ensures tables { (m : Meta) (pages : ℕ → Page) (lanes : ℕ) (place : Place) → IsWhole m (data_in m pages) → HasTables m (opening_core (image_in m pages) lanes place) }
+    ensures files { (m : Meta) (pages : ℕ → Page) (lanes : ℕ) (place : Place) → IsTable m.names → IsSound m.extents → IsWhole m (data_in m pages) →
+        ((p : ℕ) → p < total_pages m.geometry.blocks → length (pages p) ≡ 4096) →
+        mounted_of (plain (opening_core (image_in m pages) lanes place)) ≡ stands_for m (data_in m pages) }
     ensures functions { (m : Meta) (pages : ℕ → Page) (lanes : ℕ) (place : Place) → (plain (opening_core (image_in m pages) lanes place)).functions ≡ [] }
     ensures capacity { (m : Meta) (pages : ℕ → Page) (lanes : ℕ) (place : Place) →
         (plain (opening_core (image_in m pages) lanes place)).capacity ≡ m.geometry.blocks }
+{}
+
+/// On dies with the pages that an image mounts to, the opening core is coherent, and its plain state has the files and the next id that the
+/// image says.
+pub fn opening_is_mounted()
+    ensures coherent { (bytes : List ℕ) (m : Meta) (all : List Page) (pages : ℕ → Page) (lanes : ℕ) (place : Place) → IsDrive m.geometry.blocks m.geometry.dies →
+        IsTable m.names → IsSound m.extents → Mounts bytes m all (read_image bytes) →
+        ((p : ℕ) → p < total_pages m.geometry.blocks → pages p ≡ slice_index_or all p []) → Coherent (opening_core (image_in m pages) lanes place) }
+    ensures mounts { (bytes : List ℕ) (m : Meta) (all : List Page) (pages : ℕ → Page) (lanes : ℕ) (place : Place) → IsTable m.names → IsSound m.extents →
+        Mounts bytes m all (read_image bytes) → ((p : ℕ) → p < total_pages m.geometry.blocks → pages p ≡ slice_index_or all p []) →
+        mounts_to bytes ≡ Ok (mounted_of (plain (opening_core (image_in m pages) lanes place))) }
 {}
 
 /// The core of a state that stands for some history has the tables of that state; so a state of which all is stored, without a call in flight
