@@ -7,3 +7,4 @@ pub mod Wholes
 pub mod Mounts
 pub mod Openings
 pub mod States
+pub mod Runs

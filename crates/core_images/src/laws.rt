@@ -1,5 +1,5 @@
 //! Laws, each the contract of a function that takes and gives nothing.
-ghost use Rattle.std.specs.Prelude.{◌≡◌, ◌<◌, ℕ, List, [], length, None, Ok, slice_index_or};
+ghost use Rattle.std.specs.Prelude.{◌≡◌, ◌<◌, ◌++◌, ℕ, true, List, [], length, None, Ok, slice_index_or};
 ghost use Rattle.page_base.specs.Drive.{IsDrive, total_pages};
 ghost use Rattle.dispatcher.specs.declared.side.Place.{Place};
 ghost use Rattle.extent_map.specs.Places.{IsSound};
@@ -9,13 +9,17 @@ ghost use Rattle.image_format.specs.Encoding.{image_bytes};
 ghost use Rattle.image_format.specs.Image.{mounts_to, read_image};
 ghost use Rattle.image_format.specs.Tables.{Mounts};
 ghost use Rattle.image_format.specs.Whole.{IsWhole, stands_for};
+ghost use Rattle.core_state.specs.declared.event.Event.{Event};
 ghost use Rattle.core_state.specs.Coherent.{Coherent};
 ghost use Rattle.core_state.specs.Contents.{flashes};
+ghost use Rattle.core_state.specs.Happens.{after_all};
 ghost use Rattle.core_state.specs.Opening.{opening_core};
 ghost use Rattle.core_state.specs.PlainOf.{plain};
 ghost use Rattle.core_state.specs.State.{Page, Core};
 ghost use Rattle.core_state.specs.Words.{from_fn};
-ghost use Rattle.core_solo.specs.Alone.{IsEncoding};
+ghost use Rattle.core_solo.specs.Solo.{SyncEnds, Script, SoloRun, enters, leaves};
+ghost use Rattle.core_solo.specs.Alone.{OpeningFrames, IsEncoding};
+ghost use Rattle.core_solo.specs.Settling.{IsFresh};
 ghost use Rattle.core_solo.specs.Stored.{IsOfDrive, IsAllStored};
 ghost use Rattle.system_state.specs.Cores.{core_of};
 ghost use Rattle.system_state.specs.Settled.{mounted_of, flash_bytes, IsSettled, Settled};
@@ -68,6 +72,15 @@ pub fn opening_is_mounted()
     ensures mounts { (bytes : List ℕ) (m : Meta) (all : List Page) (pages : ℕ → Page) (lanes : ℕ) (place : Place) → IsTable m.names → IsSound m.extents →
         Mounts bytes m all (read_image bytes) → ((p : ℕ) → p < total_pages m.geometry.blocks → pages p ≡ slice_index_or all p []) →
         mounts_to bytes ≡ Ok (mounted_of (plain (opening_core (image_in m pages) lanes place))) }
+{}
+
+/// Where one thread runs a script and the last sync comes to its end, the pages of flash mount to the files and the next id of the last plain
+/// state: that of the last core, whose tables these are.
+pub fn solo_run_mounts()
+    ensures { (m : Meta) (c0 c1 : Core) (script : Script) (events : List Event) → OpeningFrames c0.shape → length script.lanes ≡ c0.shape.lanes →
+        Coherent c0 → IsFresh c0 → c0.closer ≡ 0 → (run : SoloRun encode c0 script true events c1) →
+        SyncEnds encode (after_all c0 (enters c0.shape.lanes ++ (run.lines ++ leaves c0.shape.lanes))) run.settling →
+        HasTables m c1 → IsTable m.names → IsSound m.extents → mounts_to (flash_bytes c1) ≡ Ok (mounted_of (plain c1)) }
 {}
 
 /// The core of a state that stands for some history has the tables of that state; so a state of which all is stored, without a call in flight
