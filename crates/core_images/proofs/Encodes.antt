@@ -19,9 +19,9 @@ use Rattle.core_state.specs.Coherent.{Coherent}
 use Rattle.core_solo.specs.Alone.{IsEncoding}
 use Rattle.core_solo.specs.Stored.{IsOfDrive}
 use Rattle.system_state.specs.Cores.{file_of}
-use Rattle.core_images.specs.Encode.{record_for, files_placed, meta_for, encode}
+use Rattle.system_metas.specs.Encode.{record_for, files_placed, meta_for, encode}
 use Rattle.core_images.specs.Tables.{HasTables}
-use Rattle.core_images.proofs.Placed.{places_are}
+use Rattle.system_metas.proofs.Encoded.{places_are}
 
 -- ---- lengths
 

@@ -23,7 +23,7 @@ use Rattle.core_lemmas.proofs.Words.{less_or_not}
 use Rattle.core_quick.proofs.Seen.{length_bytes}
 use Rattle.system_state.specs.Cores.{file_of}
 use Rattle.system_state.specs.Settled.{mounted_file}
-use Rattle.core_images.proofs.Opened.{file_block, later_block}
+use Rattle.system_start.proofs.Opened.{file_block, later_block}
 
 -- ---- elements of lists
 

@@ -1,6 +1,3 @@
-pub mod Placed
-pub mod Opened
-pub mod OpenedWhole
 pub mod Encodes
 pub mod Files
 pub mod Wholes

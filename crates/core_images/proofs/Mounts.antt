@@ -28,7 +28,7 @@ use Rattle.core_state.specs.Coherent.{Coherent}
 use Rattle.core_solo.specs.Stored.{IsAllStored}
 use Rattle.system_state.specs.Cores.{places_of}
 use Rattle.system_state.specs.Settled.{mounted_file, mounted_of, flash_bytes, IsSettled}
-use Rattle.core_images.specs.Encode.{encode}
+use Rattle.system_metas.specs.Encode.{encode}
 use Rattle.core_images.specs.Tables.{HasTables}
 use Rattle.core_images.proofs.Encodes.{tables_encode}
 use Rattle.core_images.proofs.Files.{IsSame, Tell, files_are, stored_by}

@@ -33,8 +33,8 @@ use Rattle.core_state.specs.Opening.{opening_core}
 use Rattle.core_state.specs.PlainOf.{plain}
 use Rattle.core_state.proofs.Openings.{opening_coherent}
 use Rattle.system_state.specs.Settled.{mounted_of}
-use Rattle.core_images.specs.Started.{image_in, data_in}
-use Rattle.core_images.proofs.OpenedWhole.{opened_whole}
+use Rattle.system_start.specs.Started.{image_in, data_in}
+use Rattle.system_start.proofs.Whole.{opened_whole}
 use Rattle.core_images.specs.Tables.{HasTables}
 use Rattle.core_images.proofs.Encodes.{page_whole}
 use Rattle.core_images.proofs.Files.{IsSame, all_at}

@@ -15,7 +15,7 @@ use Rattle.core_solo.specs.Alone.{OpeningFrames}
 use Rattle.core_solo.specs.Settling.{IsFresh}
 use Rattle.core_solo.proofs.Storing.{run_stores}
 use Rattle.system_state.specs.Settled.{mounted_of, flash_bytes}
-use Rattle.core_images.specs.Encode.{encode}
+use Rattle.system_metas.specs.Encode.{encode}
 use Rattle.core_images.specs.Tables.{HasTables}
 use Rattle.core_images.proofs.Encodes.{of_drive}
 use Rattle.core_images.proofs.Mounts.{mounts}

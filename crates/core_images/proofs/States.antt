@@ -10,7 +10,7 @@ use Rattle.system_state.specs.Stands.{IsStanding}
 use Rattle.system_state.specs.Settled.{Settled}
 use Rattle.system_state.specs.declared.state.State.{State}
 use Rattle.system_state.proofs.Standing.{stands_coherent}
-use Rattle.core_images.specs.Encode.{encode}
+use Rattle.system_metas.specs.Encode.{encode}
 use Rattle.core_images.specs.Tables.{HasTables}
 use Rattle.core_images.proofs.Mounts.{settled}
 

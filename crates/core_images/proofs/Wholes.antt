@@ -25,10 +25,10 @@ use Rattle.core_state.specs.Placed.{IsFree}
 use Rattle.core_state.specs.Coherent.{Coherent}
 use Rattle.core_quick.proofs.Named.{in_here, in_there}
 use Rattle.system_state.specs.Cores.{file_of, places_of}
-use Rattle.core_images.specs.Encode.{place_at, pages_placed, files_placed}
+use Rattle.system_metas.specs.Encode.{place_at, pages_placed, files_placed}
 use Rattle.core_images.specs.Tables.{HasTables}
-use Rattle.core_images.proofs.Placed.{places_are}
-use Rattle.core_images.proofs.Opened.{is_there}
+use Rattle.system_metas.proofs.Encoded.{places_are}
+use Rattle.system_start.proofs.Opened.{is_there}
 use Rattle.core_images.proofs.Files.{Tell, tell_head, tell_rest, head_count, rest_count}
 
 -- ---- places by file and page, as the files' blocks in order

@@ -1,3 +1,1 @@
-pub mod Encode
-pub mod Started
 pub mod Tables

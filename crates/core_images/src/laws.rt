@@ -25,8 +25,8 @@ ghost use Rattle.system_state.specs.Cores.{core_of};
 ghost use Rattle.system_state.specs.Settled.{mounted_of, flash_bytes, IsSettled, Settled};
 ghost use Rattle.system_state.specs.Stands.{IsStanding};
 ghost use Rattle.system_state.specs.declared.state.State.{State};
-ghost use Rattle.core_images.specs.Encode.{encode};
-ghost use Rattle.core_images.specs.Started.{image_in, data_in};
+ghost use Rattle.system_metas.specs.Encode.{encode};
+ghost use Rattle.system_start.specs.Started.{image_in, data_in};
 ghost use Rattle.core_images.specs.Tables.{HasTables};
 
 use flash_die::Die;
