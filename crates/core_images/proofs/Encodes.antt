@@ -1,5 +1,5 @@
 -- The meta pages of a core: their lengths, what they tell of, and that they are those of tables that the core has.
-use Rattle.std.proofs.Common.{◌≡◌, ℕ, ◌+◌, ◌-◌, ◌*◌, ◌<◌, ◌≤◌, List, [], ◌∷◌, ◌++◌, length, map, replicate, Bool, false, refl, sym, ap, ◌∙◌, arith, length-append}
+use Rattle.std.proofs.Common.{◌≡◌, ℕ, ◌-◌, ◌*◌, ◌<◌, ◌≤◌, List, [], ◌∷◌, ◌++◌, length, map, replicate, Bool, false, refl, sym, ap, ◌∙◌, arith, length-append}
 use Rattle.std.specs.List.{range_with_len, flat_map}
 use Rattle.std.proofs.Math.Path.{fun_ext}
 use Rattle.std.proofs.lemmas.List.{length-replicate, ext_get_or}
@@ -7,14 +7,13 @@ use Rattle.std.proofs.lemmas.List.FromFn.{get_or-map-range_with_len, length-map-
 use Rattle.page_base.specs.Drive.{Drive, meta_pages}
 use Rattle.name_table.specs.declared.files.FileRec.{FileRec}
 use Rattle.extent_map.specs.declared.places.Extent.{Extent}
-use Rattle.extent_map.specs.declared.places.Place.{Place}
 use Rattle.extent_map.specs.Places.{IsSound, runs}
 use Rattle.image_format.specs.declared.meta.Meta.{Meta}
 use Rattle.image_format.specs.Numbers.{part}
 use Rattle.image_format.specs.Layout.{entry_pages, bit_pages}
 use Rattle.image_format.specs.Encoding.{fill, byte_from, header_bytes, record_bytes, entry_bytes, header_part, record_part, entry_part, bits_part, meta_bytes, meta_page}
 use Rattle.image_format.proofs.Areas.{part_length}
-use Rattle.core_state.specs.State.{Page, File, Places, Core}
+use Rattle.core_state.specs.State.{Core}
 use Rattle.core_state.specs.Coherent.{Coherent}
 use Rattle.core_solo.specs.Alone.{IsEncoding}
 use Rattle.core_solo.specs.Stored.{IsOfDrive}

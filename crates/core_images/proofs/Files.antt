@@ -1,6 +1,6 @@
 -- The files of a core are those that its tables and blocks stand for.
-use Rattle.std.proofs.Common.{◌≡◌, ℕ, zero, suc, ◌+◌, ◌-◌, ◌*◌, ◌<◌, ◌≤◌, List, [], ◌∷◌, ◌++◌, length, take, drop, map, get_or, Bool, true, false, Option, Some, None, refl, sym, ap, ◌∙◌, subst, arith, ⊎_elim}
-use Rattle.std.specs.Prelude.{◌≢◌, ◌⊎◌, ◌/◌, ◌%◌, slice_get}
+use Rattle.std.proofs.Common.{◌≡◌, ℕ, zero, suc, ◌+◌, ◌-◌, ◌*◌, ◌<◌, ◌≤◌, List, [], ◌∷◌, length, take, drop, map, get_or, refl, sym, ap, ◌∙◌, arith, ⊎_elim}
+use Rattle.std.specs.Prelude.{◌≢◌, ◌/◌, ◌%◌, slice_get}
 use Rattle.std.specs.List.{flat_map, AllByRecursion}
 use Rattle.std.proofs.Math.Seq.{get_or-append_right}
 use Rattle.std.proofs.lemmas.List.{ext_get_or, get_or-take, get_or_append_left, length-take, length-drop}
@@ -10,12 +10,11 @@ use Rattle.page_base.specs.Bytes.{Pages}
 use Rattle.name_table.specs.declared.files.FileRec.{FileRec}
 use Rattle.name_table.specs.Files.{RiseFrom}
 use Rattle.extent_map.specs.Places.{block_of}
-use Rattle.image_format.specs.Records.{Stored}
 use Rattle.image_format.specs.Tails.{Share, shares}
 use Rattle.image_format.specs.Image as image_format
 use Rattle.image_format.specs.Tables.{stored_of, pages_of, placed_of}
 use Rattle.image_format.proofs.Areas.{length_flat}
-use Rattle.core_state.specs.State.{Page, File, Places}
+use Rattle.core_state.specs.State.{Page, Places}
 use Rattle.core_state.specs.Contents.{page_of}
 use Rattle.core_state.specs.PlainOf.{file_bytes, file_page, plain_file}
 use Rattle.core_state.specs.Words.{from_fn}

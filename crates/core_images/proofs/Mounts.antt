@@ -1,6 +1,6 @@
 -- What a core's plain state and its tables have in common, and what the pages of flash mount to once all is stored.
-use Rattle.std.proofs.Common.{◌≡◌, ℕ, zero, suc, ◌+◌, ◌-◌, ◌*◌, ◌<◌, ◌≤◌, List, [], ◌∷◌, ◌++◌, length, map, replicate, Bool, true, false, cond, ltb, None, Ok, refl, sym, ap, ◌∙◌, subst, arith}
-use Rattle.std.specs.Prelude.{nat_lt, slice_index_or}
+use Rattle.std.proofs.Common.{◌≡◌, ℕ, zero, suc, ◌+◌, ◌-◌, ◌<◌, List, [], ◌∷◌, ◌++◌, length, map, replicate, Bool, true, false, ltb, None, Ok, refl, sym, ap, ◌∙◌, subst, arith}
+use Rattle.std.specs.Prelude.{slice_index_or}
 use Rattle.std.specs.List.{AllByRecursion, range_with_len}
 use Rattle.std.proofs.lemmas.Bool.{cond-true, cond-false}
 use Rattle.std.proofs.lemmas.Bool.Decides.{nat_tests}
@@ -20,13 +20,12 @@ use Rattle.image_format.specs.Whole.{content_of, stands_for, IsWhole}
 use Rattle.image_format.proofs.Remounting.{remounted}
 use Rattle.image_laws.specs.Pages.{bytes_of, encoded}
 use Rattle.image_laws.proofs.Again.{joined}
-use Rattle.core_state.specs.State.{Page, Shape, File, Places, Core}
+use Rattle.core_state.specs.State.{Page, File, Places, Core}
 use Rattle.core_state.specs.Words.{from_fn}
-use Rattle.core_state.specs.Contents.{content, contents, image_page, flashes}
+use Rattle.core_state.specs.Contents.{contents, image_page, flashes}
 use Rattle.core_state.specs.PlainOf.{plain_file, plain}
 use Rattle.core_state.specs.Coherent.{Coherent}
 use Rattle.core_solo.specs.Stored.{IsAllStored}
-use Rattle.system_state.specs.Cores.{places_of}
 use Rattle.system_state.specs.Settled.{mounted_file, mounted_of, flash_bytes, IsSettled}
 use Rattle.system_metas.specs.Encode.{encode}
 use Rattle.core_images.specs.Tables.{HasTables}
@@ -72,9 +71,9 @@ same_range f g a b (suc n) same =
     let q : b + 0 ≡ b = omega arith in
     ap (λ (x : Page). x ∷ map f (range_with_len (a + 1) n)) (ap f p ∙ (same 0 (omega arith) ∙ ap g q))
     ∙ ap (λ (xs : List Page). g b ∷ xs) (same_range f g (a + 1) (b + 1) n (λ i l.
-      let r : a + 1 + i ≡ a + suc i = omega arith in
-      let s : b + suc i ≡ b + 1 + i = omega arith in
-      ap f r ∙ (same (suc i) (omega arith) ∙ ap g s)))
+    let r : a + 1 + i ≡ a + suc i = omega arith in
+    let s : b + suc i ≡ b + 1 + i = omega arith in
+    ap f r ∙ (same (suc i) (omega arith) ∙ ap g s)))
 
 module _ (m : Meta) (c : Core) (h : HasTables m c) (table : IsTable m.names) (sound : IsSound m.extents) (k : Coherent c) (stored : IsAllStored encode c) where
   abbrev page : ℕ → Page

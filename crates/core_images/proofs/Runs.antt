@@ -1,5 +1,5 @@
 -- What a run of one thread has stored mounts to its last plain state.
-use Rattle.std.proofs.Common.{◌≡◌, ℕ, true, List, ◌++◌, length, Ok, subst}
+use Rattle.std.proofs.Common.{◌≡◌, true, List, ◌++◌, length, Ok}
 use Rattle.name_table.specs.Files.{IsTable}
 use Rattle.extent_map.specs.Places.{IsSound}
 use Rattle.image_format.specs.declared.meta.Meta.{Meta}

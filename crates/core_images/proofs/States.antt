@@ -1,5 +1,5 @@
 -- The core of a state has the state's tables.
-use Rattle.std.proofs.Common.{◌≡◌, ℕ, ◌<◌, None, Some, Ok, refl, sym, ◌∙◌, arith}
+use Rattle.std.proofs.Common.{◌≡◌, ℕ, None, refl, sym, ◌∙◌, arith}
 use Rattle.flash_die.specs.Dies.{DieView}
 use Rattle.name_table.specs.Files.{IsTable}
 use Rattle.extent_map.specs.Places.{IsSound}

@@ -1,6 +1,6 @@
 -- In a core in which all is stored, the tables and the pages of flash are whole.
-use Rattle.std.proofs.Common.{◌≡◌, ℕ, zero, suc, ◌+◌, ◌-◌, ◌*◌, ◌<◌, ◌≤◌, List, [], ◌∷◌, ◌++◌, length, take, drop, map, get_or, Bool, true, false, eqb, cond, Option, Some, None, refl, sym, ap, ◌∙◌, subst, arith, ⊎_elim, length-append}
-use Rattle.std.specs.Prelude.{◌≢◌, ◌⊎◌, ◌/◌, ◌%◌, ◌&&◌, not, is_some, nat_lt, slice_get, slice_index, slice_index_or}
+use Rattle.std.proofs.Common.{◌≡◌, ℕ, zero, suc, ◌+◌, ◌*◌, ◌<◌, ◌≤◌, List, [], ◌∷◌, ◌++◌, length, take, drop, map, get_or, Bool, true, false, eqb, Option, Some, None, refl, sym, ap, ◌∙◌, subst, arith, ⊎_elim, length-append}
+use Rattle.std.specs.Prelude.{◌/◌, ◌%◌, ◌&&◌, not, is_some, nat_lt, slice_index, slice_index_or}
 use Rattle.std.specs.List.{Contains, AllByRecursion, range_with_len}
 use Rattle.std.proofs.lemmas.Bool.{cases_lt}
 use Rattle.std.proofs.lemmas.Bool.Decides.{nat_tests}
@@ -15,16 +15,16 @@ use Rattle.extent_map.specs.declared.places.Place.{Place}
 use Rattle.extent_map.specs.Places.{block_of, is_used, pages_on, IsSound}
 use Rattle.image_format.specs.declared.meta.Meta.{Meta}
 use Rattle.image_format.specs.Numbers.{are_zero, is_zero}
-use Rattle.image_format.specs.Tails.{Share, shares}
+use Rattle.image_format.specs.Tails.{shares}
 use Rattle.image_format.specs.Tables.{stored_of, stored_files, blocks_in, pages_of, placed_of}
 use Rattle.image_format.specs.Whole.{block_at, goes_on, IsWhole, IsValid}
-use Rattle.core_state.specs.State.{Page, Block, File, Places, Core}
+use Rattle.core_state.specs.State.{Page, File, Places, Core}
 use Rattle.core_state.specs.Words.{from_fn}
 use Rattle.core_state.specs.Contents.{content, contents, page_of, flashes}
 use Rattle.core_state.specs.Placed.{IsFree}
 use Rattle.core_state.specs.Coherent.{Coherent}
 use Rattle.core_quick.proofs.Named.{in_here, in_there}
-use Rattle.system_state.specs.Cores.{file_of, places_of}
+use Rattle.system_state.specs.Cores.{file_of}
 use Rattle.system_metas.specs.Encode.{place_at, pages_placed, files_placed}
 use Rattle.core_images.specs.Tables.{HasTables}
 use Rattle.system_metas.proofs.Encoded.{places_are}
@@ -72,13 +72,12 @@ files_planned places (t ∷ ts) full =
     let p = plan places t.id n 0 (λ j l m. full.0 j ∙ grind (arith, nat_tests)) in
     let r = files_planned places ts full.1 in
     let size : length (map block own) ≡ n = length-map own block ∙ p.count in
-    let split = map_append own rest in
-    (
+    let split = map_append own rest in (
       ap (λ (xs : List Place). xs ++ rest) p.is
-      ∙ (ap (λ (xs : List Place). pages_on t.id 0 (map block own) ++ xs) r.0
-      ∙ (ap (λ (bs : List ℕ). pages_on t.id 0 bs ++ placed_of (map stored_of ts) (map block rest)) (sym (take_at (map block own) (map block rest) n size))
-      ∙ (ap (λ (bs : List ℕ). pages_on t.id 0 (take n (map block own ++ map block rest)) ++ placed_of (map stored_of ts) bs) (sym (drop_at (map block own) (map block rest) n size))
-      ∙ ap (λ (bs : List ℕ). pages_on t.id 0 (take n bs) ++ placed_of (map stored_of ts) (drop n bs)) (sym split)))),
+          ∙ (ap (λ (xs : List Place). pages_on t.id 0 (map block own) ++ xs) r.0
+          ∙ (ap (λ (bs : List ℕ). pages_on t.id 0 bs ++ placed_of (map stored_of ts) (map block rest)) (sym (take_at (map block own) (map block rest) n size))
+          ∙ (ap (λ (bs : List ℕ). pages_on t.id 0 (take n (map block own ++ map block rest)) ++ placed_of (map stored_of ts) bs) (sym (drop_at (map block own) (map block rest) n size))
+          ∙ ap (λ (bs : List ℕ). pages_on t.id 0 (take n bs) ++ placed_of (map stored_of ts) (drop n bs)) (sym split)))),
       length-append own rest ∙ omega (arith, p.count, r.1),
     )
 
