@@ -12,14 +12,14 @@ ghost use Rattle.image_format.specs.Whole.{IsWhole, stands_for};
 ghost use Rattle.core_state.specs.declared.event.Event.{Event};
 ghost use Rattle.core_state.specs.Coherent.{Coherent};
 ghost use Rattle.core_state.specs.Contents.{flashes};
-ghost use Rattle.core_state.specs.Happens.{after_all};
+ghost use Rattle.core_state.specs.Happens.{CoreRun, after_all};
 ghost use Rattle.core_state.specs.Opening.{opening_core};
 ghost use Rattle.core_state.specs.PlainOf.{plain};
 ghost use Rattle.core_state.specs.State.{Page, Core};
 ghost use Rattle.core_state.specs.Words.{from_fn};
 ghost use Rattle.core_solo.specs.Solo.{SyncEnds, Script, SoloRun, enters, leaves};
 ghost use Rattle.core_solo.specs.Alone.{OpeningFrames, IsEncoding};
-ghost use Rattle.core_solo.specs.Settling.{IsFresh};
+ghost use Rattle.core_solo.specs.Settling.{IsSettling, IsFresh};
 ghost use Rattle.core_solo.specs.Stored.{IsOfDrive, IsAllStored};
 ghost use Rattle.system_state.specs.Cores.{core_of};
 ghost use Rattle.system_state.specs.Settled.{mounted_of, flash_bytes, IsSettled, Settled};
@@ -74,13 +74,16 @@ pub fn opening_is_mounted()
         mounts_to bytes ≡ Ok (mounted_of (plain (opening_core (image_in m pages) lanes place))) }
 {}
 
-/// Where one thread runs a script and the last sync comes to its end, the pages of flash mount to the files and the next id of the last plain
-/// state: that of the last core, whose tables these are.
-pub fn solo_run_mounts()
-    ensures { (m : Meta) (c0 c1 : Core) (script : Script) (events : List Event) → OpeningFrames c0.shape → length script.lanes ≡ c0.shape.lanes →
+/// Where the last sync comes to its end, by itself or after the run of one thread over a script, its last core is settled: no call is in
+/// flight, all dies are at home, every block is clean, and the pages of flash mount to the files and the next id of the last plain state. `m`
+/// has the tables of that core.
+pub fn last_sync_settles()
+    ensures sync { (m : Meta) (c c1 : Core) (events : List Event) → Coherent c → IsSettling c → ((die : ℕ) → (c.dies die).out ≡ None) → c.closer ≡ 0 →
+        SyncEnds encode c events → CoreRun c events c1 → HasTables m c1 → IsTable m.names → IsSound m.extents → IsSettled c1 }
+    ensures run { (m : Meta) (c0 c1 : Core) (script : Script) (events : List Event) → OpeningFrames c0.shape → length script.lanes ≡ c0.shape.lanes →
         Coherent c0 → IsFresh c0 → c0.closer ≡ 0 → (run : SoloRun encode c0 script true events c1) →
         SyncEnds encode (after_all c0 (enters c0.shape.lanes ++ (run.lines ++ leaves c0.shape.lanes))) run.settling →
-        HasTables m c1 → IsTable m.names → IsSound m.extents → mounts_to (flash_bytes c1) ≡ Ok (mounted_of (plain c1)) }
+        HasTables m c1 → IsTable m.names → IsSound m.extents → IsSettled c1 }
 {}
 
 /// The core of a state that stands for some history has the tables of that state; so a state of which all is stored, without a call in flight
