@@ -1,6 +1,6 @@
 -- The opening core of an image whose tables and data blocks are whole, and of an image that was mounted.
-use Rattle.std.proofs.Common.{◌≡◌, ℕ, zero, suc, ◌+◌, ◌*◌, ◌<◌, List, [], ◌∷◌, ◌++◌, length, map, replicate, Bool, true, false, cond, eqb, ltb, Ok, refl, sym, ap, ◌∙◌, subst, arith}
-use Rattle.std.specs.Prelude.{slice_index_or}
+use Rattle.std.proofs.Common.{◌≡◌, ℕ, zero, suc, ◌+◌, ◌*◌, ◌<◌, List, [], ◌∷◌, ◌++◌, length, map, replicate, Bool, true, false, cond, eqb, ltb, Ok, refl, sym, ap, ◌∙◌, subst, arith, mod-lt}
+use Rattle.std.specs.Prelude.{◌/◌, ◌%◌, slice_index_or}
 use Rattle.std.specs.List.{AllByRecursion, range_with_len}
 use Rattle.std.proofs.lemmas.Bool.{cond-true, cond-false}
 use Rattle.std.proofs.lemmas.Bool.Decides.{nat_tests}
@@ -8,6 +8,7 @@ use Rattle.std.proofs.lemmas.List.{get_or-drop, length-drop, length-replicate}
 use Rattle.std.proofs.lemmas.List.FromFn.{get_or-map-range_with_len, fill_by_all}
 use Rattle.page_base.specs.Bytes.{zero_page}
 use Rattle.page_base.specs.Drive.{IsDrive, meta_pages, total_pages}
+use Rattle.page_base.proofs.Shares.{place_inside}
 use Rattle.name_table.specs.Files.{IsTable}
 use Rattle.extent_map.specs.Places.{IsSound}
 use Rattle.image_format.specs.declared.header.Header.{Header}
@@ -24,6 +25,7 @@ use Rattle.image_laws.specs.Pages.{data_blocks}
 use Rattle.image_laws.proofs.Cutting.{pages_whole}
 use Rattle.image_laws.proofs.Readings.{read_so, body_length}
 use Rattle.image_laws.proofs.Whole.{Found, total, whole, stands}
+use Rattle.flash_die.specs.Dies.{DieView}
 use Rattle.dispatcher.specs.declared.side.Place.{Place}
 use Rattle.core_state.specs.State.{Page, Core}
 use Rattle.core_state.specs.Words.{from_fn}
@@ -33,7 +35,7 @@ use Rattle.core_state.specs.Opening.{opening_core}
 use Rattle.core_state.specs.PlainOf.{plain}
 use Rattle.core_state.proofs.Openings.{opening_coherent}
 use Rattle.system_state.specs.Settled.{mounted_of}
-use Rattle.system_start.specs.Started.{image_in, data_in}
+use Rattle.system_start.specs.Started.{image_in, data_in, pages_of, MayStart, opening_on}
 use Rattle.system_start.proofs.Whole.{opened_whole}
 use Rattle.core_images.specs.Tables.{HasTables}
 use Rattle.core_images.proofs.Encodes.{page_whole}
@@ -141,3 +143,17 @@ module _ (bytes : List ℕ) (m : Meta) (all : List Page) (f : Found bytes m all)
     mounted lanes place table sound =
         stands bytes m all f sound
         ∙ ap (λ (x : image_format.Mounted). Ok x) (ap (stands_for m) same_data ∙ sym (opened m pages lanes place is_whole table sound are_long))
+
+-- ---- dies that may start
+
+module _ {D : Type 0} (seen : D → DieView) (dies : List D) (m : Meta) (may : MayStart seen dies m) where
+  pages_long : IsDrive m.geometry.blocks m.geometry.dies → AreWhole m (pages_of seen dies)
+  pages_long drive p l =
+      let c = may.count in
+      let one = drive.some_dies in
+      let some : 0 < length dies = omega arith in
+      let d : p % length dies < length dies = mod-lt p some in
+      (may.told (p % length dies) d).whole (p / length dies) (let i = place_inside p (total_pages m.geometry.blocks) (length dies) some l in let e = may.size (p % length dies) d in omega arith)
+
+  pub started : (lanes : ℕ) (place : Place) → IsDrive m.geometry.blocks m.geometry.dies → IsTable m.names → IsSound m.extents → mounted_of (plain (opening_on seen dies m lanes place)) ≡ stands_for m (data_in m (pages_of seen dies))
+  started lanes place drive table sound = opened m (pages_of seen dies) lanes place may.whole table sound (pages_long drive)

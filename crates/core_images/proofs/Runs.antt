@@ -1,6 +1,5 @@
 -- What a last sync has stored mounts to its last plain state, and its last core is settled.
-use Rattle.std.proofs.Common.{◌≡◌, ℕ, ◌+◌, ◌<◌, true, false, List, [], ◌∷◌, ◌++◌, length, Option, Some, None, Ok, refl, sym, ap, ◌∙◌, subst, arith}
-use Rattle.page_base.specs.Drive.{meta_pages}
+use Rattle.std.proofs.Common.{◌≡◌, ℕ, true, List, [], ◌∷◌, ◌++◌, length, Option, Some, None, refl, sym, ap, ◌∙◌, subst, arith}
 use Rattle.name_table.specs.Files.{IsTable}
 use Rattle.extent_map.specs.Places.{IsSound}
 use Rattle.image_format.specs.declared.meta.Meta.{Meta}

@@ -26,7 +26,7 @@ ghost use Rattle.system_state.specs.Settled.{mounted_of, flash_bytes, IsSettled,
 ghost use Rattle.system_state.specs.Stands.{IsStanding};
 ghost use Rattle.system_state.specs.declared.state.State.{State};
 ghost use Rattle.system_metas.specs.Encode.{encode};
-ghost use Rattle.system_start.specs.Started.{image_in, data_in};
+ghost use Rattle.system_start.specs.Started.{image_in, data_in, pages_of, MayStart, opening_on};
 ghost use Rattle.core_images.specs.Tables.{HasTables};
 
 use flash_die::Die;
@@ -61,6 +61,13 @@ pub fn opening_stands()
     ensures functions { (m : Meta) (pages : ℕ → Page) (lanes : ℕ) (place : Place) → (plain (opening_core (image_in m pages) lanes place)).functions ≡ [] }
     ensures capacity { (m : Meta) (pages : ℕ → Page) (lanes : ℕ) (place : Place) →
         (plain (opening_core (image_in m pages) lanes place)).capacity ≡ m.geometry.blocks }
+{}
+
+/// Where a directory may start over some dies, the plain state of its opening core has the files and the next id that the tables and the dies'
+/// data blocks stand for.
+pub fn started_stands<D: Die>()
+    ensures { (dies : List D) (m : Meta) (lanes : ℕ) (place : Place) → MayStart D.seen dies m → IsDrive m.geometry.blocks m.geometry.dies →
+        IsTable m.names → IsSound m.extents → mounted_of (plain (opening_on D.seen dies m lanes place)) ≡ stands_for m (data_in m (pages_of D.seen dies)) }
 {}
 
 /// On dies with the pages that an image mounts to, the opening core is coherent, and its plain state has the files and the next id that the
