@@ -39,7 +39,12 @@ fn made_by(flushed: Flushed) -> Made
 
 /// Makes one step of room at a side for a lane that has no call yet: the first of these that is possible. For the host a copy of it goes, or
 /// goes to the drive; then for either a copy of the drive goes, or a block is flushed, by way of `page`.
-pub fn make_room<D: Die, J: CallJob, K: Desk<System<D, J>>>(desk: &mut K, lane: u32, side: Side, page: &mut Page) -> Result<Made, Worn>
+pub fn make_room<D: Die, J: CallJob, K: Desk<System<D, J>>>(
+    desk: &mut K,
+    lane: u32,
+    side: Side,
+    page: &mut Page,
+) -> Result<Made, Worn>
     requires free { K.is_free desk.old }
     requires acts { ActsFor (core_of D.seen) (K.opening desk.old) (K.view desk.old) (Lane lane) }
     requires lane { IsFree (core_seen (core_of D.seen) (K.opening desk.old) (K.view desk.old)) lane }

@@ -115,7 +115,12 @@ fn send<D: Die, J: CallJob>(state: &mut State<D, J>, actor: Actor, into: &mut Pa
 
 /// Makes the first possible event for room at a side: for the host a copy of it goes, or goes to the drive; then for either a copy of the
 /// drive goes, or a die goes out to flush a block. `Nothing`: none of them is possible.
-pub fn try_room<D: Die, J: CallJob>(state: &mut State<D, J>, actor: Actor, side: Side, into: &mut Page) -> Given<D>
+pub fn try_room<D: Die, J: CallJob>(
+    state: &mut State<D, J>,
+    actor: Actor,
+    side: Side,
+    into: &mut Page,
+) -> Given<D>
     requires may { MayMove D.seen J.suits state.old actor }
     requires acts { FlushesFor (core_of D.seen state.old) actor }
     ensures next { given_event actor result ≡ room_event (core_of D.seen state.old) actor side }

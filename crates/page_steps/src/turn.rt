@@ -19,7 +19,12 @@ use system_state::CallJob;
 use turn_cell::{Desk, Worn};
 
 /// Makes the first possible event for room at a side, in one turn.
-pub fn turn_room<D: Die, J: CallJob, K: Desk<System<D, J>>>(desk: &mut K, actor: Actor, side: Side, into: &mut Page) -> Result<Given<D>, Worn>
+pub fn turn_room<D: Die, J: CallJob, K: Desk<System<D, J>>>(
+    desk: &mut K,
+    actor: Actor,
+    side: Side,
+    into: &mut Page,
+) -> Result<Given<D>, Worn>
     requires free { K.is_free desk.old }
     requires acts { ActsFor (core_of D.seen) (K.opening desk.old) (K.view desk.old) actor }
     requires may { MayFlushNow (core_seen (core_of D.seen) (K.opening desk.old) (K.view desk.old)) actor }
