@@ -1,0 +1,23 @@
+use Rattle.std.proofs.Common.{◌≡◌, ◌∙◌, None, Some, ap, refl, sym, subst}
+use Rattle.core_state.specs.declared.event.Event.TheVariants.{Evict, Demote, FlushOut}
+use Rattle.core_state.specs.Words.{or_else}
+use Rattle.core_state.specs.DieEvents.{FlushesFor}
+use Rattle.coherence.specs.Paired.{by_side}
+use Rattle.core_solo.specs.Solo.{evict_event, demote_event, flush_event}
+use Rattle.dispatcher.specs.declared.side.Side.TheVariants.{Host, Drive}
+use Rattle.system_state.specs.Cores.{core_of}
+use Rattle.page_steps.specs.Room.{MayMove, Gave, IsSent, event_of, move_event, given_event}
+use Rattle.page_steps.proofs.Moves.{gave_one, gave_none, first_some, first_none, or_apart, evict_some, evict_none, demote_some, demote_none, flush_some, flush_none}
+use Rattle.page_steps.proofs.room.demote.Goals as goal
+
+pub returns-in-Ok-clause-next : goal.returns-in-Ok-clause-next
+returns-in-Ok-clause-next g c = demote_some (core_of g.D.Die.seen c.args.state.now) c.args.actor c.in-Ok.block c.in-Ok.ensures.first c.in-Ok.ensures.room
+
+pub returns-in-Ok-clause-gave : goal.returns-in-Ok-clause-gave
+returns-in-Ok-clause-gave g c = gave_one g.D.Die.seen g.J.CallJob.suits c.args.state.now c.try_demote.new.state (Demote c.args.actor c.in-Ok.block) c.in-Ok.ensures.stands
+
+pub returns-in-Err-clause-next : goal.returns-in-Err-clause-next
+returns-in-Err-clause-next g c = demote_none (core_of g.D.Die.seen c.args.state.now) c.args.actor c.in-Err.ensures.none
+
+pub returns-in-Err-clause-gave : goal.returns-in-Err-clause-gave
+returns-in-Err-clause-gave g c = gave_none g.D.Die.seen g.J.CallJob.suits c.args.state.now c.try_demote.new.state c.in-Err.ensures.same

@@ -1,0 +1,20 @@
+use Rattle.std.proofs.Common.{◌≡◌, ◌∙◌, None, Some, ap, refl, sym, subst}
+use Rattle.core_state.specs.declared.event.Event.TheVariants.{Evict, Demote, FlushOut}
+use Rattle.core_state.specs.Words.{or_else}
+use Rattle.core_state.specs.DieEvents.{FlushesFor}
+use Rattle.coherence.specs.Paired.{by_side}
+use Rattle.core_solo.specs.Solo.{evict_event, demote_event, flush_event}
+use Rattle.dispatcher.specs.declared.side.Side.TheVariants.{Host, Drive}
+use Rattle.system_state.specs.Cores.{core_of}
+use Rattle.page_steps.specs.Room.{MayMove, Gave, IsSent, event_of, move_event, given_event}
+use Rattle.page_steps.proofs.Moves.{gave_one, gave_none, first_some, first_none, or_apart, evict_some, evict_none, demote_some, demote_none, flush_some, flush_none}
+use Rattle.page_steps.proofs.room.move_at.Goals as goal
+
+pub returns-in-Host-clause-next : goal.returns-in-Host-clause-next
+returns-in-Host-clause-next g c = subst (λ z. move_event c.args.actor c.move_host.result ≡ by_side z (or_else (evict_event (core_of g.D.Die.seen c.args.state.now) c.args.actor Host) (demote_event (core_of g.D.Die.seen c.args.state.now) c.args.actor)) None) (sym c.in-Host.is) c.move_host.ensures.next
+
+pub returns-in-Drive-clause-next : goal.returns-in-Drive-clause-next
+returns-in-Drive-clause-next g c = ap (λ z. by_side z (or_else (evict_event (core_of g.D.Die.seen c.args.state.now) c.args.actor Host) (demote_event (core_of g.D.Die.seen c.args.state.now) c.args.actor)) None) (sym c.in-Drive.is)
+
+pub returns-in-Drive-clause-gave : goal.returns-in-Drive-clause-gave
+returns-in-Drive-clause-gave g c = gave_none g.D.Die.seen g.J.CallJob.suits c.args.state.now c.args.state.now refl
