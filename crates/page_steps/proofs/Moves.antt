@@ -1,5 +1,5 @@
 -- Events for room, one of several.
-use Rattle.std.proofs.Common.{◌≡◌, ℕ, ◌+◌, Bool, true, false, List, [], ◌∷◌, ◌++◌, Option, Some, None, refl, sym, ap, ◌∙◌, subst, inl, inr, append-nil}
+use Rattle.std.proofs.Common.{◌≡◌, ℕ, Bool, true, false, List, [], ◌∷◌, ◌++◌, Option, Some, None, refl, sym, ap, ◌∙◌, subst, inl, inr, append-nil}
 use Rattle.std.specs.Prelude.{◌<◌, nat_lt, option_map, if◌then◌else◌}
 use Rattle.std.specs.List.{find}
 use Rattle.std.proofs.Common.{arith}
@@ -26,7 +26,7 @@ use Rattle.desk_turns.specs.Making.{AreFew, AreOf}
 use Rattle.page_steps.specs.declared.room.Move.TheVariants.{Evicted, Demoted}
 use Rattle.page_steps.specs.declared.room.Given.{Given}
 use Rattle.page_steps.specs.declared.room.Given.TheVariants.{Moved, Sent, Nothing}
-use Rattle.page_steps.specs.Room.{MayMove, Gave, given_event, few}
+use Rattle.page_steps.specs.Room.{Gave, given_event, few}
 
 module _ {D J : Type 0} (seen : D → DieView) (suits : J → JobView → Type 0) where
   pub gave_one : (s t : State D J) (e : Event) → ((o : State D J) (h : List (Entry Event)) (n : ℕ) → Stands seen suits s o h → Stands seen suits t o (h ++ entry n e ∷ [])) → Gave seen suits s (Some e) t

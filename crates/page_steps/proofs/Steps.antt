@@ -17,17 +17,17 @@ use Rattle.core_solo.specs.Solo.{room_event}
 use Rattle.system_state.specs.Cores.{core_of}
 use Rattle.system_state.specs.declared.errand.Errand.{Errand}
 use Rattle.system_state.specs.declared.state.State.{State}
-use Rattle.desk_turns.specs.Passing.{ActsFor, core_after, core_seen, Turn, FoundAt, Went, Does, SameCalls, SameLane}
+use Rattle.desk_turns.specs.Passing.{ActsFor, core_after, core_seen, Turn, Went, Does, SameCalls, SameLane}
 use Rattle.desk_turns.proofs.Later.{own_idle, keeps_on, keeps_held, same_calls}
 use Rattle.desk_turns.proofs.Went.{went_on, went_turn, found_turn}
-use Rattle.flushes.specs.Flushing.{Flushes, IsBetweenFlushes, MayFlushNow, CameHome, HomeSays, HasFailed}
+use Rattle.flushes.specs.Flushing.{Flushes, IsBetweenFlushes, MayFlushNow, HomeSays}
 use Rattle.flushes.specs.declared.flush.Flushed.{Flushed}
 use Rattle.flushes.specs.declared.flush.Flushed.TheVariants.{Wrote, Failed as FlushFailed, Nothing as NothingUnclean, Busy}
 use Rattle.flushes.proofs.Steps.{leaves, shape_at, may_at, sent_keeps, sent_flushes, failed_on, quiet_step}
-use Rattle.page_steps.specs.Room.{event_of, few, given_event, RoomTurn}
-use Rattle.page_steps.specs.Making.{IsIdleWith, IsFree, IsForRoom, IsWhole, MadeRoom, FailedRoom, RoomSays, made_by}
+use Rattle.page_steps.specs.Room.{event_of, RoomTurn}
+use Rattle.page_steps.specs.Making.{IsIdleWith, IsFree, IsForRoom, IsWhole, RoomSays, made_by}
 use Rattle.page_steps.specs.declared.making.Made.{Made}
-use Rattle.page_steps.specs.declared.making.Made.TheVariants.{Room, Failed, Wait}
+use Rattle.page_steps.specs.declared.making.Made.TheVariants.{Room, Wait}
 use Rattle.page_steps.specs.declared.room.Move.{Move}
 use Rattle.page_steps.specs.declared.room.Move.TheVariants.{Evicted, Demoted}
 use Rattle.page_steps.specs.declared.room.Given.TheVariants.{Moved, Sent, Nothing}
@@ -78,19 +78,13 @@ moved_whole lane (Evicted side block) = refl
 moved_whole lane (Demoted block) = refl
 
 module _ {D J : Type 0} (seen : D → DieView) where
-  abbrev O : Type 0
-  O = Snapshot (State D J)
-
-  abbrev V : Type 0
-  V = View (Snapshot (State D J)) Event
-
   abbrev C : State D J → Core
   C = core_of seen
 
-  number_on : (v u : V) (events : List Event) → Went v u events → u.number ≡ v.number
-  number_on v u events p = ap (λ (z : V). z.number) p.pass
+  number_on : (v u : View (Snapshot (State D J)) Event) (events : List Event) → Went v u events → u.number ≡ v.number
+  number_on v u events p = ap (λ (z : View (Snapshot (State D J)) Event). z.number) p.pass
 
-  pub moved_step : (o : O) (v u : V) (lane : ℕ) (side : Side) (page : Page) (step : Move) → ActsFor C o v (Lane lane) → IsFree (core_seen C o v) lane → Turn C o v u (RoomTurn {D = D} (Lane lane) side page (Moved step)) → Does v u (RoomSays seen o v u lane side (Ok Room))
+  pub moved_step : (o : Snapshot (State D J)) (v u : View (Snapshot (State D J)) Event) (lane : ℕ) (side : Side) (page : Page) (step : Move) → ActsFor C o v (Lane lane) → IsFree (core_seen C o v) lane → Turn C o v u (RoomTurn {D = D} (Lane lane) side page (Moved step)) → Does v u (RoomSays seen o v u lane side (Ok Room))
   moved_step o v u lane side page step acts free t =
       let P = RoomTurn {D = D} (Lane lane) side page (Moved step) in
       let e = event_of (Lane lane) step in
@@ -116,7 +110,7 @@ module _ {D J : Type 0} (seen : D → DieView) where
         };
       }
 
-  pub still_step : (o : O) (v u : V) (lane : ℕ) (side : Side) (page : Page) → ActsFor C o v (Lane lane) → IsFree (core_seen C o v) lane → Turn C o v u (RoomTurn {D = D} (Lane lane) side page Nothing) → Does v u (RoomSays seen o v u lane side (Ok Wait))
+  pub still_step : (o : Snapshot (State D J)) (v u : View (Snapshot (State D J)) Event) (lane : ℕ) (side : Side) (page : Page) → ActsFor C o v (Lane lane) → IsFree (core_seen C o v) lane → Turn C o v u (RoomTurn {D = D} (Lane lane) side page Nothing) → Does v u (RoomSays seen o v u lane side (Ok Wait))
   still_step o v u lane side page acts free t =
       let P = RoomTurn {D = D} (Lane lane) side page Nothing in
       let c0 = core_seen C o v in
@@ -134,10 +128,10 @@ module _ {D J : Type 0} (seen : D → DieView) where
 
   -- ---- a flush
 
-  pub sent_ready : (o : O) (v u : V) (lane : ℕ) (side : Side) (page : Page) (e : Errand D) → ActsFor C o v (Lane lane) → IsFree (core_seen C o v) lane → Turn C o v u (RoomTurn (Lane lane) side page (Sent e)) → Flushes false (core_seen C o u) (Lane lane)
+  pub sent_ready : (o : Snapshot (State D J)) (v u : View (Snapshot (State D J)) Event) (lane : ℕ) (side : Side) (page : Page) (e : Errand D) → ActsFor C o v (Lane lane) → IsFree (core_seen C o v) lane → Turn C o v u (RoomTurn (Lane lane) side page (Sent e)) → Flushes false (core_seen C o u) (Lane lane)
   sent_ready o v u lane side page e acts free t = sent_flushes seen o v u (RoomTurn (Lane lane) side page (Sent e)) (Lane lane) e acts (free_may (core_seen C o v) lane free) t t.says.are
 
-  came_home : (o : O) (v u w : V) (lane : ℕ) (side : Side) (page : Page) (e : Errand D) (r : Flushed) (fs : List Event) → ActsFor C o v (Lane lane) → IsFree (core_seen C o v) lane → (t : Turn C o v u (RoomTurn (Lane lane) side page (Sent e))) → Went u w fs →
+  came_home : (o : Snapshot (State D J)) (v u w : View (Snapshot (State D J)) Event) (lane : ℕ) (side : Side) (page : Page) (e : Errand D) (r : Flushed) (fs : List Event) → ActsFor C o v (Lane lane) → IsFree (core_seen C o v) lane → (t : Turn C o v u (RoomTurn (Lane lane) side page (Sent e))) → Went u w fs →
       HomeSays seen o u w (Lane lane) e.number e.subject (Ok r) fs → RoomSays seen o v w lane side (Ok (made_by r)) (t.events ++ fs)
   came_home o v u w lane side page e (Wrote b) fs acts free t went p =
       let P = RoomTurn (Lane lane) side page (Sent e) in
@@ -172,18 +166,18 @@ module _ {D J : Type 0} (seen : D → DieView) where
   came_home o v u w lane side page e NothingUnclean fs acts free t went p = absurd p
   came_home o v u w lane side page e (Busy n) fs acts free t went p = absurd p
 
-  pub sent_step : (o q : O) (v u w : V) (lane : ℕ) (side : Side) (page : Page) (e : Errand D) (r : Flushed) → q ≡ o → ActsFor C o v (Lane lane) → IsFree (core_seen C o v) lane → Turn C o v u (RoomTurn (Lane lane) side page (Sent e)) →
+  pub sent_step : (o q : Snapshot (State D J)) (v u w : View (Snapshot (State D J)) Event) (lane : ℕ) (side : Side) (page : Page) (e : Errand D) (r : Flushed) → q ≡ o → ActsFor C o v (Lane lane) → IsFree (core_seen C o v) lane → Turn C o v u (RoomTurn (Lane lane) side page (Sent e)) →
       Does u w (HomeSays seen q u w (Lane lane) e.number e.subject (Ok r)) → Does v w (RoomSays seen o v w lane side (Ok (made_by r)))
   sent_step o q v u w lane side page e r same acts free t p =
       record {
         events = t.events ++ p.events;
         went = went_on v u w t.events p.events (went_turn C o v u (RoomTurn (Lane lane) side page (Sent e)) t) p.went;
-        says = came_home o v u w lane side page e r p.events acts free t p.went (subst (λ (z : O). HomeSays seen z u w (Lane lane) e.number e.subject (Ok r) p.events) same p.says);
+        says = came_home o v u w lane side page e r p.events acts free t p.went (subst (λ (z : Snapshot (State D J)). HomeSays seen z u w (Lane lane) e.number e.subject (Ok r) p.events) same p.says);
       }
 
   -- ---- where the turn is worn
 
-  pub sent_worn : (o q : O) (v u w : V) (lane : ℕ) (side : Side) (page : Page) (e : Errand D) (x : Worn) (r : Result Made Worn) → IsErr r → Turn C o v u (RoomTurn (Lane lane) side page (Sent e)) →
+  pub sent_worn : (o q : Snapshot (State D J)) (v u w : View (Snapshot (State D J)) Event) (lane : ℕ) (side : Side) (page : Page) (e : Errand D) (x : Worn) (r : Result Made Worn) → IsErr r → Turn C o v u (RoomTurn (Lane lane) side page (Sent e)) →
       Does u w (HomeSays seen q u w (Lane lane) e.number e.subject (Err x)) → Does v w (RoomSays seen o v w lane side r)
   sent_worn o q v u w lane side page e x (Ok m) is t p = absurd (cc)
   sent_worn o q v u w lane side page e x (Err y) is t p =
@@ -193,6 +187,6 @@ module _ {D J : Type 0} (seen : D → DieView) where
         says = inr (e.number, e.subject, λ i. t.says.are i ++ p.says i);
       }
 
-  pub room_worn : (o : O) (v w : V) (lane : ℕ) (side : Side) (r : Result Made Worn) → IsErr r → Went v w [] → Does v w (RoomSays seen o v w lane side r)
+  pub room_worn : (o : Snapshot (State D J)) (v w : View (Snapshot (State D J)) Event) (lane : ℕ) (side : Side) (r : Result Made Worn) → IsErr r → Went v w [] → Does v w (RoomSays seen o v w lane side r)
   room_worn o v w lane side (Ok m) is went = absurd (cc)
   room_worn o v w lane side (Err y) is went = record { events = []; went = went; says = inl refl }

@@ -2,7 +2,7 @@
 --
 -- The order is SoloRun's: for the host a copy of it goes, or goes to the drive; then for either a copy of the drive goes, or a block is
 -- flushed.
-use Rattle.std.specs.Prelude.{◌≡◌, ◌+◌, ◌++◌, ℕ, map, List, [], ◌∷◌, Option, Some, None, option_map}
+use Rattle.std.specs.Prelude.{◌≡◌, ◌+◌, ◌++◌, ℕ, List, [], ◌∷◌, Option, Some, None, option_map}
 use Rattle.turn_cell.specs.declared.book.Entry.{Entry}
 use Rattle.turn_cell.specs.Events.{events_of}
 use Rattle.turn_cell.specs.History.{entry}

@@ -7,6 +7,7 @@ ghost use Rattle.core_solo.specs.Solo.{evict_event, demote_event, flush_event, r
 ghost use Rattle.dispatcher.specs.declared.side.Side.TheVariants.{Host as AtHost, Drive as AtDrive};
 ghost use Rattle.system_state.specs.Cores.{core_of};
 ghost use Rattle.system_state.specs.declared.errand.Errand.{Errand};
+ghost use Rattle.page_steps.specs.declared.room.Given.TheVariants.{Sent};
 ghost use Rattle.page_steps.specs.Room.{MayMove, Gave, IsSent, move_event, given_event};
 
 use core_state::Actor;

@@ -7,6 +7,7 @@ ghost use Rattle.system_state.specs.Errands.{IsFresh};
 ghost use Rattle.system_state.specs.declared.errand.Errand.{Errand};
 ghost use Rattle.desk_turns.specs.Passing.{ActsFor, core_seen, Turn, Went};
 ghost use Rattle.flushes.specs.Flushing.{MayFlushNow, IsInHand};
+ghost use Rattle.page_steps.specs.declared.room.Given.TheVariants.{Sent};
 ghost use Rattle.page_steps.specs.Room.{RoomTurn};
 
 use crate::room::{Given, try_room};

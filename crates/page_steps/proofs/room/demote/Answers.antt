@@ -1,13 +1,6 @@
-use Rattle.std.proofs.Common.{◌≡◌, ◌∙◌, None, Some, ap, refl, sym, subst}
-use Rattle.core_state.specs.declared.event.Event.TheVariants.{Evict, Demote, FlushOut}
-use Rattle.core_state.specs.Words.{or_else}
-use Rattle.core_state.specs.DieEvents.{FlushesFor}
-use Rattle.coherence.specs.Paired.{by_side}
-use Rattle.core_solo.specs.Solo.{evict_event, demote_event, flush_event}
-use Rattle.dispatcher.specs.declared.side.Side.TheVariants.{Host, Drive}
+use Rattle.core_state.specs.declared.event.Event.TheVariants.{Demote}
 use Rattle.system_state.specs.Cores.{core_of}
-use Rattle.page_steps.specs.Room.{MayMove, Gave, IsSent, event_of, move_event, given_event}
-use Rattle.page_steps.proofs.Moves.{gave_one, gave_none, first_some, first_none, or_apart, evict_some, evict_none, demote_some, demote_none, flush_some, flush_none}
+use Rattle.page_steps.proofs.Moves.{gave_one, gave_none, demote_some, demote_none}
 use Rattle.page_steps.proofs.room.demote.Goals as goal
 
 pub returns-in-Ok-clause-next : goal.returns-in-Ok-clause-next

@@ -1,4 +1,4 @@
-use Rattle.std.proofs.Common.{◌≡◌, ◌∙◌, ◌∷◌, [], Ok, inl, inr, ap, refl, sym, subst}
+use Rattle.std.proofs.Common.{Ok, refl, sym}
 use Rattle.system_state.specs.Cores.{core_of}
 use Rattle.system_state.specs.Stands.{Stands}
 use Rattle.desk_turns.proofs.Turning.{gives_at, turned_at}
