@@ -3,7 +3,7 @@ use Rattle.std.proofs.Common.{◌≡◌, ◌≢◌, ℕ, ◌+◌, ◌^◌, ◌<�
 use Rattle.std.specs.Prelude.{IfSome, IsSomeAnd, ◌⊎◌, replicate}
 use Rattle.std.proofs.Math.ListN.{length-replicate}
 use Rattle.std.proofs.lemmas.List.{get_or-set_same, get_or-set_other, length-set}
-use Rattle.flash_die.specs.Dies.{DieView, IsDie, Counts, WentWrite, with_page}
+use Rattle.flash_die.specs.Dies.{DieView, IsDie, WentWrite, with_page}
 use Rattle.mirror_die.specs.Mirror.{MirrorView, AreEqual, IsMirror, TellsMost, page_of, told_pages, sum_of, seen_of}
 use Rattle.mirror_die.specs.Calls.{counted}
 use Rattle.mirror_die.specs.declared.freshness.Fresh.{Fresh}
