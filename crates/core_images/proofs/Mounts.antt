@@ -1,7 +1,7 @@
 -- What a core's plain state and its tables have in common, and what the pages of flash mount to once all is stored.
 use Rattle.std.proofs.Common.{◌≡◌, ℕ, zero, suc, ◌+◌, ◌-◌, ◌<◌, List, [], ◌∷◌, ◌++◌, length, map, replicate, Bool, true, false, ltb, None, Ok, refl, sym, ap, ◌∙◌, subst, arith}
 use Rattle.std.specs.Prelude.{slice_index_or}
-use Rattle.std.specs.List.{AllByRecursion, range_with_len}
+use Rattle.std.specs.List.{AllByRecursion, flat_map, range_with_len}
 use Rattle.std.proofs.lemmas.Bool.{cond-true, cond-false}
 use Rattle.std.proofs.lemmas.Bool.Decides.{nat_tests}
 use Rattle.std.proofs.lemmas.List.{length-map}
@@ -12,13 +12,15 @@ use Rattle.extent_map.specs.declared.places.Place.{Place}
 use Rattle.extent_map.specs.Places.{block_of, IsSound}
 use Rattle.image_format.specs.declared.meta.Meta.{Meta}
 use Rattle.image_format.specs.Image as image_format
-use Rattle.image_format.specs.Image.{mounts_to}
-use Rattle.image_format.specs.Encoding.{meta_page, image_bytes}
+use Rattle.image_format.specs.Image.{mounts_to, read_image}
+use Rattle.image_format.specs.Encoding.{bits_part, meta_page, image_bytes}
 use Rattle.image_format.specs.Tails.{shares}
 use Rattle.image_format.specs.Tables.{stored_files, blocks_in}
 use Rattle.image_format.specs.Whole.{content_of, stands_for, IsWhole}
-use Rattle.image_format.proofs.Remounting.{remounted}
+use Rattle.image_format.proofs.Remounting.{read_again, remounted}
+use Rattle.image_format.proofs.Steps.{ok_bind}
 use Rattle.image_laws.specs.Pages.{bytes_of, encoded}
+use Rattle.image_laws.proofs.Steps.{same_ok}
 use Rattle.image_laws.proofs.Again.{joined}
 use Rattle.core_state.specs.State.{Page, File, Places, Core}
 use Rattle.core_state.specs.Words.{from_fn}
@@ -28,6 +30,7 @@ use Rattle.core_state.specs.Coherent.{Coherent}
 use Rattle.core_solo.specs.Stored.{IsAllStored}
 use Rattle.system_state.specs.Settled.{mounted_file, mounted_of, flash_bytes, IsSettled}
 use Rattle.system_metas.specs.Encode.{encode}
+use Rattle.core_images.specs.Images.{IsImageOfCore}
 use Rattle.core_images.specs.Tables.{HasTables}
 use Rattle.core_images.proofs.Encodes.{tables_encode}
 use Rattle.core_images.proofs.Files.{IsSame, Tell, files_are, stored_by}
@@ -50,6 +53,16 @@ plain_stands m c data_pages h table sound w same =
     let files = files_are c.places (contents c.blocks) (content_of m data_pages) 1 m.names.files (blocks_in m.extents) table.rise (length-map m.extents.placed (λ (p : Place). p.block) ∙ w.count) all tells in
     ap (λ (fs : List File). of (map mounted_file (map (plain_file c.places (contents c.blocks)) fs)) c.names.next) h.files
     ∙ (ap (λ (fs : List image_format.File). of fs c.names.next) files ∙ ap (of (map (stored_by (content_of m data_pages)) (shares (stored_files m.names) (blocks_in m.extents)))) h.next)
+
+abbrev image_again : Meta → List Page → image_format.Image
+image_again m blocks =
+    record {
+      header = record { version = 2; blocks = m.geometry.blocks; dies = m.geometry.dies; next = m.names.next };
+      files = stored_files m.names;
+      blocks = blocks_in m.extents;
+      bits = bits_part m.geometry.blocks m.written;
+      body = flat_map (λ page. page) blocks;
+    }
 
 -- ---- the pages of flash
 
@@ -125,3 +138,17 @@ module _ (m : Meta) (c : Core) (h : HasTables m c) (table : IsTable m.names) (so
 
   pub settled : ((lane : ℕ) → c.calls lane ≡ None) → ((d : ℕ) → (c.dies d).out ≡ None) → IsSettled c
   settled calls home = record { calls = calls; home = home; clean = λ b l. stored.clean b; mounts = mounts }
+
+  -- the bytes are read as an image of this drive
+  pub image_is : IsImageOfCore c (flash_bytes c)
+  unfolding mounts_to
+  image_is =
+      let read = ap read_image flash_is ∙ read_again m (body m c h k) (valid m c h k stored.clean table sound) (whole m c h k stored.clean table sound) in
+      let i = image_again m (body m c h k) in
+      record {
+        image = i;
+        read = read;
+        blocks = sym h.blocks;
+        dies = sym h.dies;
+        mounts = same_ok (image_format.mounted i) (mounted_of (plain c)) (sym (ok_bind (read_image (flash_bytes c)) i (λ (j : image_format.Image). Ok (image_format.mounted j)) read) ∙ mounts);
+      }

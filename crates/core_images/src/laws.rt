@@ -27,6 +27,7 @@ ghost use Rattle.system_state.specs.Stands.{IsStanding};
 ghost use Rattle.system_state.specs.declared.state.State.{State};
 ghost use Rattle.system_metas.specs.Encode.{encode};
 ghost use Rattle.system_start.specs.Started.{image_in, data_in, pages_of, MayStart, opening_on};
+ghost use Rattle.core_images.specs.Images.{IsImageOfCore};
 ghost use Rattle.core_images.specs.Tables.{HasTables};
 
 use flash_die::Die;
@@ -40,13 +41,15 @@ pub fn encodes_pages()
 {}
 
 /// In a coherent core with tables, of which every block is clean and every meta page is stored, the pages of flash, joined in the order of
-/// the image, are the image of these tables and of its data blocks; and they mount to the files and the next id of its plain state. Where no
-/// call is in flight and all dies are at home, the core is settled.
+/// the image, are the image of these tables and of its data blocks; and they are an image of its drive that mounts to the files and the
+/// next id of its plain state. Where no call is in flight and all dies are at home, the core is settled.
 pub fn stored_core_mounts()
     ensures image { (m : Meta) (c : Core) → HasTables m c → IsTable m.names → IsSound m.extents → Coherent c → IsAllStored encode c →
         flash_bytes c ≡ image_bytes m (from_fn m.geometry.blocks (flashes c.blocks)) }
     ensures mounts { (m : Meta) (c : Core) → HasTables m c → IsTable m.names → IsSound m.extents → Coherent c → IsAllStored encode c →
         mounts_to (flash_bytes c) ≡ Ok (mounted_of (plain c)) }
+    ensures reads { (m : Meta) (c : Core) → HasTables m c → IsTable m.names → IsSound m.extents → Coherent c → IsAllStored encode c →
+        IsImageOfCore c (flash_bytes c) }
     ensures settled { (m : Meta) (c : Core) → HasTables m c → IsTable m.names → IsSound m.extents → Coherent c → IsAllStored encode c →
         ((lane : ℕ) → c.calls lane ≡ None) → ((die : ℕ) → (c.dies die).out ≡ None) → IsSettled c }
 {}
