@@ -5,9 +5,9 @@ ghost use Rattle.core_state.specs.Reach.{function_word, claim_for};
 ghost use Rattle.system_state.specs.Cores.{file_of, claim_of};
 ghost use Rattle.call_checks.specs.Checks.{lacks_function, function_by, id_or};
 
-use crate::refusals::len_or;
 use crate::finding::{file_for, function_named};
 use crate::reach::reach_of;
+use crate::refusals::len_or;
 use dispatcher::Side;
 use name_table::{FileRec, Name, Names};
 use plain_files::{Call, Request, Word};
@@ -48,12 +48,7 @@ fn function_of(functions: &[Function], call: &Call) -> Option<Name>
 }
 
 /// What the begin of a request at a side fixes. Its numbers are in their limits, and its function is there.
-pub fn claim_for(
-    names: &Names,
-    functions: &[Function],
-    request: &Request,
-    side: Side,
-) -> Claim
+pub fn claim_for(names: &Names, functions: &[Function], request: &Request, side: Side) -> Claim
     requires short { is_too_long request.now.call ≡ false }
     requires there { lacks_function functions.now request.now.call ≡ false }
     ensures claim { claim_of result ≡ claim_for (map file_of names.now.files) request.now side }

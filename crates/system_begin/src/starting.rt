@@ -19,8 +19,8 @@ ghost use Rattle.system_begin.specs.Begun.{begin_waits, side_of, claim_at_side, 
 use crate::beginning::begin;
 use crate::sides::{is_data, is_lambda, side_for};
 use call_checks::claim_for;
-use flash_die::Die;
 use dispatcher::Side;
+use flash_die::Die;
 use plain_files::Request;
 use system_state::{CallJob, Claim, NotYet, State};
 use turn_cell::Entry;

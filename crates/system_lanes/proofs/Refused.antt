@@ -21,7 +21,7 @@ use Rattle.core_state.specs.Coherent.{Coherent}
 use Rattle.core_state.specs.LaneEvents.{IsReady, IsClear, MayQuick, quick, replied, is_unsealed}
 use Rattle.core_lemmas.proofs.Spans.{file_in}
 use Rattle.core_lemmas.proofs.Views.{file_seen}
-use Rattle.core_quick.proofs.Named.{in_cases, in_here, in_there}
+use Rattle.core_quick.proofs.Named.{in_cases, in_here, in_there, in_none}
 use Rattle.core_quick.proofs.Seen.{files_seen}
 use Rattle.core_quick.proofs.Renamed.{len_by_id, follows_is}
 
@@ -38,7 +38,7 @@ bytes_other xs ys d = go (bytes_eq xs ys) refl
     go false e = refl
 
 own_e : (all : List Function) → EachBehind (λ (f g : Function). f.name ≢ g.name) all → (x : Function) → Contains all x → e_in all x.name ≡ x.e
-own_e [] h x i = absurd (cc)
+own_e [] h x i = absurd (in_none x i)
 own_e (y ∷ ys) h x i = ⊎_elim
     (λ (s : y ≡ x). ap (λ (t : Bool). e_or_none (if t then Some y else find (λ (f : Function). bytes_eq f.name x.name) ys)) (ap (λ (z : Function). bytes_eq z.name x.name) s ∙ bytes_own x.name) ∙ ap (λ (z : Function). z.e) s)
     (λ (m : Contains ys x). ap (λ (t : Bool). e_or_none (if t then Some y else find (λ (f : Function). bytes_eq f.name x.name) ys)) (bytes_other y.name x.name (h.0 x m)) ∙ own_e ys h.1 x m)
@@ -79,12 +79,12 @@ module _ (c : Core) (call : Call) (reply : Reply) (h : Coherent c) (e : early (p
 -- ---- nobody is in its way
 
 not_done : (a b d f g : Bool) → (if a then Some TooLong else if b then Some NoFile else if d then Some NoFn else if f then Some AppendOnly else if g then Some TooBig else None) ≡ Some Done → ⊥
-not_done true b d f g = cc
-not_done false true d f g = cc
-not_done false false true f g = cc
-not_done false false false true g = cc
-not_done false false false false true = cc
-not_done false false false false false = cc
+not_done true b d f g e = cc
+not_done false true d f g e = cc
+not_done false false true f g e = cc
+not_done false false false true g e = cc
+not_done false false false false true e = cc
+not_done false false false false false e = cc
 
 never_done : (s : State) (call : Call) (reply : Reply) → early s call ≡ Some reply → reply ≡ Done → ⊥
 never_done s call reply e d = not_done (is_too_long call) (lacks_file s call) (lacks_function s call) (is_append_only s call) (nat_lt (2 ^ 28) (end_of s call)) (e ∙ ap Some d)
