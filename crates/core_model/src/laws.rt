@@ -7,6 +7,7 @@ ghost use Rattle.core_state.specs.PlainOf.{plain};
 ghost use Rattle.core_state.specs.Coherent.{Coherent};
 ghost use Rattle.core_state.specs.Happens.{Happens, CoreRun};
 ghost use Rattle.core_state.specs.History.{calls_of, AreAwaited, failures, faults};
+ghost use Rattle.core_pages.specs.Inner.{answers_call};
 ghost use Rattle.core_hold.specs.Keeps.{HoldsAfter};
 
 /// Every list of events leads from a coherent core to a coherent one, and raises no block's version by more than twice
@@ -20,14 +21,17 @@ pub fn coherent_kept()
 }
 
 /// The calls of a run from a coherent core are legal on plain files, from its first plain state to its last. Where no call
-/// was in flight and no lane had ended one, each lane's awaited calls stand before the calls that await them.
+/// was in flight and no lane had ended one, each lane's awaited calls stand before the calls that await them. Every event
+/// other than Quick and End leaves the plain state as it is.
 pub fn calls_legal()
     ensures legal { (c0 c1 : Core) (events : List Event) → Coherent c0 → CoreRun c0 events c1 → Legal (plain c0) (calls_of events) (plain c1) }
     ensures awaited { (c0 c1 : Core) (events : List Event) → ((lane : ℕ) → c0.calls lane ≡ None) → ((lane : ℕ) → (c0.lanes lane).ended ≡ 0) →
         CoreRun c0 events c1 → AreAwaited events }
+    ensures stays { (c c2 : Core) (e : Event) → Coherent c → Happens c e c2 → answers_call e ≡ false → plain c2 ≡ plain c }
 {
     core_stores::laws::calls_legal();
     core_history::laws::calls_awaited();
+    core_pages::laws::plain_kept();
 }
 
 /// From a coherent core an event of one actor leaves what every other actor holds, but a Report adds to what the call's

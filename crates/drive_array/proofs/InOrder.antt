@@ -6,7 +6,6 @@ use Rattle.std.proofs.lemmas.Nat.{mod_below}
 use Rattle.std.proofs.lemmas.List.{get_or-map, get_or-set_same, get_or-set_other, map-set, length-map, length-set, append-nil}
 use Rattle.std.proofs.lemmas.List.Folds.{concat-append}
 use Rattle.std.proofs.lemmas.List.FromFn.{map-range_with_len_more}
-use Rattle.edge_io.specs.Edges.{Rose}
 use Rattle.page_base.specs.Drive.{die_share}
 use Rattle.page_base.proofs.Shares.{place_inside}
 use Rattle.flash_die.specs.Dies.{PlanView, DieView, WentRead, read_fails, after_read}
@@ -154,7 +153,7 @@ went_at seen dies i die next place good before after within at went =
     subst (λ (v : DieView). WentRead v place good before after (die_at (map seen (set dies i next)) i)) (sym (view_at seen dies i die within at)) (subst (λ (v : DieView). WentRead (seen die) place good before after v) (sym (view_set seen dies i next within)) went)
 
 -- the count of the die at which the reading stopped has risen
-pub stopped_rose : (dies total die : ℕ) (old new : List DieView) → 0 < dies → StopsAt dies total die old new → Rose (die_at old die).faults (die_at new die).faults
+pub stopped_rose : (dies total die : ℕ) (old new : List DieView) → 0 < dies → StopsAt dies total die old new → (die_at old die).faults < (die_at new die).faults
 stopped_rose dies total die old new some stops =
     let below : die < dies = subst (λ (d : ℕ). d < dies) stops.here (mod_below stops.page dies some) in
     let rose = stops.failed.counts.failed refl in

@@ -2,7 +2,6 @@
 use Rattle.std.specs.Prelude.{◌≡◌, ◌≢◌, ℕ, zero, suc, ◌/◌, ◌%◌, ◌<◌, ◌≤◌, true, false, List, [], length, get_or, Some, None, IfSome, option_map}
 use Rattle.flash_die.specs.Dies.{PlanView, DieView, read_fails, after_read, WentRead}
 use Rattle.std.specs.List.{concat}
-use Rattle.edge_io.specs.Edges.{Rose}
 use Rattle.page_base.specs.Drive.{Drive, die_share, total_pages}
 use Rattle.drive_array.specs.Cut.{joined}
 
@@ -91,4 +90,4 @@ StopsIn drive die old new = StopsAt drive.dies (total_pages drive.blocks) die ol
 
 -- the count of faults of this die has risen
 abbrev pub RisesAt : ℕ → List DieView → List DieView → Type 0
-RisesAt die old new = Rose (die_at old die).faults (die_at new die).faults
+RisesAt die old new = (die_at old die).faults < (die_at new die).faults

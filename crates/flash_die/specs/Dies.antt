@@ -1,7 +1,6 @@
 -- What is told of a die, and what its calls make of that. This project's own.
 use Rattle.std.specs.Prelude.{◌≡◌, ℕ, ◌+◌, ◌^◌, ◌<◌, ◌≤◌, min, Bool, true, false, not, List, [], length, get_or, set, Option, IfSome, option_map}
 use Rattle.std.specs.List.{All}
-use Rattle.edge_io.specs.Edges.{Rose}
 use Rattle.edge_io.specs.Memory.{is_listed}
 
 -- how many reads and how many writes were made, and the numbers, counted from 1, of the reads and of the writes that fail
@@ -69,7 +68,7 @@ pub record Counts (old : DieView) (good : Bool) (new : DieView) : Type 0 where
   pub size : new.size ≡ old.size
   pub most : new.most ≡ old.most
   pub later : old.faults ≤ new.faults
-  pub failed : good ≡ false → Rose old.faults new.faults
+  pub failed : good ≡ false → old.faults < new.faults
 
 -- a read, from the page's buffer as it was to what it is after
 pub record WentRead (old : DieView) (page : ℕ) (good : Bool) (before after : List ℕ) (new : DieView) : Type 0 where

@@ -1,6 +1,5 @@
 -- What is told of raw flash, and what its calls make of that. This project's own.
 use Rattle.std.specs.Prelude.{◌≡◌, ℕ, ◌+◌, ◌*◌, ◌/◌, ◌^◌, ◌<◌, ◌≤◌, Bool, true, false, List, ◌++◌, length, take, drop, replicate, get_or, set, Option, Some, None, is_some, IsTrue, IfSome}
-use Rattle.edge_io.specs.Edges.{Rose}
 
 -- each page, erased (None) or programmed with its bytes; how many erase blocks there are, how many calls have failed, and a number that these never pass
 pub record RawView : Type 0 where
@@ -35,7 +34,7 @@ pub record RawCounts (old : RawView) (good : Bool) (new : RawView) : Type 0 wher
   pub blocks : new.blocks ≡ old.blocks
   pub most : new.most ≡ old.most
   pub later : old.faults ≤ new.faults
-  pub failed : good ≡ false → Rose old.faults new.faults
+  pub failed : good ≡ false → old.faults < new.faults
 
 -- a read, from the page's buffer as it was to what it is after
 pub record RawRead (old : RawView) (page : ℕ) (good : Bool) (before after : List ℕ) (new : RawView) : Type 0 where

@@ -5,7 +5,6 @@ use Rattle.std.specs.List.{sum_by, All}
 use Rattle.std.proofs.lemmas.List.{length-set, length-map, get_or-set_same, get_or-set_other, get_or-map, get_or_past, get_or_default, set-get_or, ext_get_or, drop-set-lt, take_more_set, set-set}
 use Rattle.std.proofs.lemmas.List.Sums.{sum_by-le, sum_by_push}
 use Rattle.std.proofs.lemmas.Bool.{cases_eq, cases_lt}
-use Rattle.edge_io.specs.Edges.{Rose}
 use Rattle.flash_raw.specs.Raw.{RawView, RawCounts, IsProgrammed, IsNextErased, erased_block}
 use Rattle.flash_raw.proofs.Erased.{get_or-erased_block, length-erased_block}
 use Rattle.ftl_die.specs.declared.place.Place.{Place}
@@ -21,7 +20,7 @@ counts_both a b c good more first second = record {
   blocks = second.blocks ∙ first.blocks;
   most = second.most ∙ first.most;
   later = omega (arith, first.later, second.later);
-  failed = elim good as (λ g. good ≡ g → (g && more) ≡ false → Rose a.faults c.faults) [
+  failed = elim good as (λ g. good ≡ g → (g && more) ≡ false → a.faults < c.faults) [
     | true ↦ λ _ bad. let rose = second.failed bad in omega (arith, rose, first.later)
     | false ↦ λ is bad. let rose = first.failed is in omega (arith, rose, second.later)
   ] refl;

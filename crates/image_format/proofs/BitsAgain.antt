@@ -87,7 +87,7 @@ find_none : (p : ℕ → Bool) (a n : ℕ) → ((k : ℕ) → p k ≡ false) →
 find_none p a zero none = refl
 find_none p a (suc n) none = cond-false (p a) (Some a) (find p (range_with_len (a + 1) n)) (none a) ∙ find_none p (a + 1) n none
 
-used_any : (b : ℕ) (ps : List Place) → is_used b ps ≡ list_any (λ x. eqb x b) (map (λ (p : Place). p.block) ps)
+pub used_any : (b : ℕ) (ps : List Place) → is_used b ps ≡ list_any (λ x. eqb x b) (map (λ (p : Place). p.block) ps)
 used_any b [] = refl
 used_any b (p ∷ ps) = ap (λ t. eqb p.block b || t) (used_any b ps)
 

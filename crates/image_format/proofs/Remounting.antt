@@ -223,7 +223,7 @@ image_size m body valid whole =
       whole.pages,
     )
 
-read_again : (m : Meta) (body : List (List ℕ)) → IsValid m body → IsWhole m body
+pub read_again : (m : Meta) (body : List (List ℕ)) → IsValid m body → IsWhole m body
     → read_image (image_bytes m body) ≡ Ok (record { header = record { version = 2; blocks = m.geometry.blocks; dies = m.geometry.dies; next = m.names.next }; files = stored_files m.names; blocks = blocks_in m.extents; bits = bits_part m.geometry.blocks m.written; body = flat_map (λ page. page) body })
 read_again m body valid whole =
     let h : Header = record { version = 2; blocks = m.geometry.blocks; dies = m.geometry.dies; next = m.names.next } in

@@ -11,7 +11,7 @@ use Rattle.mirror_die.specs.declared.copies.Copied.TheVariants.{Done, ReadFailed
 use Rattle.mirror_die.specs.declared.freshness.Fresh.{Fresh}
 use Rattle.mirror_die.specs.declared.freshness.Fresh.TheVariants.{OnBoth, OnFirst, OnSecond}
 use Rattle.mirror_die.proofs.Lists.{with_page-read}
-use Rattle.mirror_die.proofs.Steps.{rises, left_by, told_after, sum_kept}
+use Rattle.mirror_die.proofs.Steps.{left_by, told_after, sum_kept}
 use Rattle.mirror_die.proofs.Reading.{gave_first, gave_second}
 
 -- a mirror that tells the same
@@ -43,8 +43,8 @@ kept_unwritten old new first second fresh =
 same_mark : (fresh now : List Fresh) (page : ℕ) (mark : Fresh) → now ≡ fresh → get_or fresh page OnBoth ≡ mark → now ≡ set fresh page mark
 same_mark fresh now page mark same is = same ∙ sym (ap (set fresh page) (sym is) ∙ set-get_or fresh page OnBoth)
 
-pub second_by : (outcome : Copied) (old new : MirrorView) (page : ℕ) (before after : List ℕ) → IsMirror old → IsDie old.first → IsDie old.second → IsDie new.first → IsDie new.second → page < old.first.size → fresh_at old page ≡ OnFirst → Copies outcome old.first old.second page before after new.first new.second → new.fresh ≡ marks_after outcome old.fresh page → new.faults ≡ old.faults → IsRestored old page (to_second outcome) new
-second_by Done old new page before after is first second new_first new_second within on copies fresh faults = record {
+pub second_by : (outcome : Copied) (old new : MirrorView) (page : ℕ) (before after : List ℕ) → IsMirror old → IsDie old.first → IsDie old.second → page < old.first.size → fresh_at old page ≡ OnFirst → Copies outcome old.first old.second page before after new.first new.second → new.fresh ≡ marks_after outcome old.fresh page → new.faults ≡ old.faults → IsRestored old page (to_second outcome) new
+second_by Done old new page before after is first second within on copies fresh faults = record {
   same = seen_same old new (kept_second old new page OnBoth after after is first second within (ap is_on_first on) (copies.0.ok refl) copies.0.pages (copies.1.ok refl) fresh refl) copies.0.counts.size copies.0.counts.most copies.1.counts.most faults;
   done = λ _. fresh;
   left = λ failed. absurd (failed refl);
@@ -53,16 +53,16 @@ second_by Done old new page before after is first second new_first new_second wi
   first = λ e. absurd (cc (e));
   second = λ e. absurd (cc (e));
 }
-second_by ReadFailed old new page before after is first second new_first new_second within on copies fresh faults = record {
+second_by ReadFailed old new page before after is first second within on copies fresh faults = record {
   same = seen_same old new (kept_unwritten old new copies.0.pages (ap (λ (d : DieView). d.pages) copies.1) fresh) copies.0.counts.size copies.0.counts.most (ap (λ (d : DieView). d.most) copies.1) faults;
   done = λ e. absurd (cc (e));
   left = λ _. (fresh, ap alone on);
   first_later = copies.0.counts.later;
   second_later = omega (arith, ap (λ (d : DieView). d.faults) copies.1);
-  first = λ _. rises old.first new.first false copies.0.counts refl is.first_most new_first;
+  first = λ _. copies.0.counts.failed refl;
   second = λ e. absurd (cc (e));
 }
-second_by WriteFailed old new page before after is first second new_first new_second within on copies fresh faults =
+second_by WriteFailed old new page before after is first second within on copies fresh faults =
     let left = left_by old.second page false after new.second copies.1 in
     record {
       same = seen_same old new (kept_second old new page OnFirst after left.left is first second within (ap is_on_first on) (copies.0.ok refl) copies.0.pages left.pages (same_mark old.fresh new.fresh page OnFirst fresh on) refl) copies.0.counts.size copies.0.counts.most copies.1.counts.most faults;
@@ -71,11 +71,11 @@ second_by WriteFailed old new page before after is first second new_first new_se
       first_later = copies.0.counts.later;
       second_later = copies.1.counts.later;
       first = λ e. absurd (cc (e));
-      second = λ _. rises old.second new.second false copies.1.counts refl is.second_most new_second;
+      second = λ _. copies.1.counts.failed refl;
     }
 
-pub first_by : (outcome : Copied) (old new : MirrorView) (page : ℕ) (before after : List ℕ) → IsMirror old → IsDie old.first → IsDie old.second → IsDie new.first → IsDie new.second → page < old.first.size → fresh_at old page ≡ OnSecond → Copies outcome old.second old.first page before after new.second new.first → new.fresh ≡ marks_after outcome old.fresh page → new.faults ≡ old.faults → IsRestored old page (to_first outcome) new
-first_by Done old new page before after is first second new_first new_second within on copies fresh faults = record {
+pub first_by : (outcome : Copied) (old new : MirrorView) (page : ℕ) (before after : List ℕ) → IsMirror old → IsDie old.first → IsDie old.second → page < old.first.size → fresh_at old page ≡ OnSecond → Copies outcome old.second old.first page before after new.second new.first → new.fresh ≡ marks_after outcome old.fresh page → new.faults ≡ old.faults → IsRestored old page (to_first outcome) new
+first_by Done old new page before after is first second within on copies fresh faults = record {
   same = seen_same old new (kept_first old new page OnBoth after after is first second within (ap is_on_second on) (copies.0.ok refl) copies.0.pages (copies.1.ok refl) fresh refl) copies.1.counts.size copies.1.counts.most copies.0.counts.most faults;
   done = λ _. fresh;
   left = λ failed. absurd (failed refl);
@@ -84,16 +84,16 @@ first_by Done old new page before after is first second new_first new_second wit
   first = λ e. absurd (cc (e));
   second = λ e. absurd (cc (e));
 }
-first_by ReadFailed old new page before after is first second new_first new_second within on copies fresh faults = record {
+first_by ReadFailed old new page before after is first second within on copies fresh faults = record {
   same = seen_same old new (kept_unwritten old new (ap (λ (d : DieView). d.pages) copies.1) copies.0.pages fresh) (ap (λ (d : DieView). d.size) copies.1) (ap (λ (d : DieView). d.most) copies.1) copies.0.counts.most faults;
   done = λ e. absurd (cc (e));
   left = λ _. (fresh, ap alone on);
   first_later = omega (arith, ap (λ (d : DieView). d.faults) copies.1);
   second_later = copies.0.counts.later;
   first = λ e. absurd (cc (e));
-  second = λ _. rises old.second new.second false copies.0.counts refl is.second_most new_second;
+  second = λ _. copies.0.counts.failed refl;
 }
-first_by WriteFailed old new page before after is first second new_first new_second within on copies fresh faults =
+first_by WriteFailed old new page before after is first second within on copies fresh faults =
     let left = left_by old.first page false after new.first copies.1 in
     record {
       same = seen_same old new (kept_first old new page OnSecond after left.left is first second within (ap is_on_second on) (copies.0.ok refl) copies.0.pages left.pages (same_mark old.fresh new.fresh page OnSecond fresh on) refl) copies.1.counts.size copies.1.counts.most copies.0.counts.most faults;
@@ -101,6 +101,6 @@ first_by WriteFailed old new page before after is first second new_first new_sec
       left = λ _. (fresh, ap alone on);
       first_later = copies.1.counts.later;
       second_later = copies.0.counts.later;
-      first = λ _. rises old.first new.first false copies.1.counts refl is.first_most new_first;
+      first = λ _. copies.1.counts.failed refl;
       second = λ e. absurd (cc (e));
     }

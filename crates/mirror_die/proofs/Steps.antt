@@ -1,34 +1,18 @@
 -- A call of a mirror is one of a die, and leaves a mirror.
 use Rattle.std.proofs.Common.{◌≡◌, ◌≢◌, ℕ, ◌+◌, ◌^◌, ◌<◌, ◌≤◌, Bool, true, false, List, [], length, get_or, set, Option, Some, None, refl, ap, sym, subst, ◌∙◌, ⊎_elim, arith}
 use Rattle.std.specs.Prelude.{IfSome, IsSomeAnd, ◌⊎◌, replicate}
-use Rattle.edge_io.specs.Edges.{Rose}
 use Rattle.std.proofs.Math.ListN.{length-replicate}
 use Rattle.std.proofs.lemmas.List.{get_or-set_same, get_or-set_other, length-set}
-use Rattle.flash_die.specs.Dies.{DieView, IsDie, Counts, WentWrite, with_page}
+use Rattle.flash_die.specs.Dies.{DieView, IsDie, WentWrite, with_page}
 use Rattle.mirror_die.specs.Mirror.{MirrorView, AreEqual, IsMirror, TellsMost, page_of, told_pages, sum_of, seen_of}
 use Rattle.mirror_die.specs.Calls.{counted}
 use Rattle.mirror_die.specs.declared.freshness.Fresh.{Fresh}
 use Rattle.mirror_die.specs.declared.freshness.Fresh.TheVariants.{OnBoth, OnFirst}
 use Rattle.mirror_die.proofs.Lists.{told_pages-with_page}
 
--- a bound that is told is below 2^63, so the count is
-below_most : (most : Option ℕ) (faults : ℕ) → IsSomeAnd most (λ m. m < 2 ^ 63) → IfSome most (λ m. faults ≤ m) → faults < 2 ^ 63
-below_most (Some m) faults told bounded = omega arith
-below_most None faults told bounded = absurd told
-
-pub few_faults : (die : DieView) → TellsMost die → IsDie die → die.faults < 2 ^ 63
-few_faults die told is = below_most die.most die.faults told is.bounded
-
 -- a call keeps the bound
 pub still_told : (old new : DieView) → new.most ≡ old.most → TellsMost old → TellsMost new
 still_told old new same told = subst (λ (m : Option ℕ). IsSomeAnd m (λ n. n < 2 ^ 63)) (sym same) told
-
--- the count of a copy that fails has risen
-pub rises : (old new : DieView) (good : Bool) → Counts old good new → good ≡ false → TellsMost old → IsDie new → old.faults < new.faults
-rises old new good counts bad told is =
-    let rose = counts.failed bad in
-    let few = few_faults new (still_told old new counts.most told) is in
-    omega arith
 
 -- the pages that are fresh on both copies are the same on both
 abbrev pub AreSame : List Fresh → Option (List (List ℕ)) → Option (List (List ℕ)) → Type 0
@@ -105,7 +89,7 @@ pub counted_later : (good : Bool) (before now : ℕ) → now ≡ counted good be
 counted_later true before now is = omega arith
 counted_later false before now is = omega arith
 
-pub counted_rose : (good : Bool) (before now : ℕ) → now ≡ counted good before → good ≡ false → Rose before now
+pub counted_rose : (good : Bool) (before now : ℕ) → now ≡ counted good before → good ≡ false → before < now
 counted_rose true before now is bad = absurd (cc (bad))
 counted_rose false before now is bad = omega arith
 

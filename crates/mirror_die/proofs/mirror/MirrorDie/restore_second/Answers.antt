@@ -9,10 +9,10 @@ pub returns-in-Done-clause-after : goal.returns-in-Done-clause-after
 returns-in-Done-clause-after g c =
     let mirror = c.args.self.now in
     let new : MirrorView = record { first = g.A.Die.seen c.copy_page.new.source; second = g.B.Die.seen c.copy_page.new.target; fresh = c.set.new.self; faults = mirror.faults } in
-    second_by Done (view_of mirror) new c.args.page c.args.buffer.now c.copy_page.new.buffer mirror.mirrors (g.met.A.Die.sound mirror.first) (g.met.B.Die.sound mirror.second) (g.met.A.Die.sound c.copy_page.new.source) (g.met.B.Die.sound c.copy_page.new.target) c.requires.within c.requires.on_first c.in-Done.ensures c.set.ensures refl
+    second_by Done (view_of mirror) new c.args.page c.args.buffer.now c.copy_page.new.buffer mirror.mirrors (g.met.A.Die.sound mirror.first) (g.met.B.Die.sound mirror.second) c.requires.within c.requires.on_first c.in-Done.ensures c.set.ensures refl
 
 pub returns-in-WriteFailed-clause-after : goal.returns-in-WriteFailed-clause-after
 returns-in-WriteFailed-clause-after g c =
     let mirror = c.args.self.now in
     let new : MirrorView = record { first = g.A.Die.seen c.copy_page.new.source; second = g.B.Die.seen c.copy_page.new.target; fresh = mirror.fresh; faults = mirror.faults } in
-    second_by WriteFailed (view_of mirror) new c.args.page c.args.buffer.now c.copy_page.new.buffer mirror.mirrors (g.met.A.Die.sound mirror.first) (g.met.B.Die.sound mirror.second) (g.met.A.Die.sound c.copy_page.new.source) (g.met.B.Die.sound c.copy_page.new.target) c.requires.within c.requires.on_first c.in-WriteFailed.ensures refl refl
+    second_by WriteFailed (view_of mirror) new c.args.page c.args.buffer.now c.copy_page.new.buffer mirror.mirrors (g.met.A.Die.sound mirror.first) (g.met.B.Die.sound mirror.second) c.requires.within c.requires.on_first c.in-WriteFailed.ensures refl refl

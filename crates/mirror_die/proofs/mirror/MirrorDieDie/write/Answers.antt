@@ -22,7 +22,7 @@ invariant_of-self g c =
     let old = c.args.self.now in
     let new : MirrorView = record { first = g.A.Die.seen c.write.new.self; second = g.B.Die.seen c.write-2.new.self; fresh = c.set.new.self; faults = c.count_fault.new.faults } in
     record {
-      mirrors = write_keeps (view_of old) new c.args.page (is_ok c.count_fault.result) c.args.from.now old.mirrors (g.met.A.Die.sound old.first) (g.met.B.Die.sound old.second) (g.met.A.Die.sound c.write.new.self) c.requires (record {
+      mirrors = write_keeps (view_of old) new c.args.page (is_ok c.count_fault.result) c.args.from.now old.mirrors (g.met.A.Die.sound old.first) (g.met.B.Die.sound old.second) c.requires (record {
         first_took = is_ok c.write.result;
         second_took = is_ok c.write-2.result;
         first = c.write.ensures;

@@ -1,0 +1,5 @@
+pub mod Steps
+pub mod Readings
+pub mod Cutting
+pub mod Whole
+pub mod Again
