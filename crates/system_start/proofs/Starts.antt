@@ -1,16 +1,14 @@
 -- Which dies may start: those with the pages that an image mounts to, and any under the tables of a drive without files.
-use Rattle.std.proofs.Common.{◌≡◌, ℕ, zero, suc, ◌<◌, List, [], ◌∷◌, length, get_or, replicate, ◌+◌, Bool, true, false, Option, Some, None, Result, Ok, Err, refl, sym, ap, ◌∙◌, subst, arith}
+use Rattle.std.proofs.Common.{◌≡◌, ℕ, zero, suc, ◌<◌, List, [], ◌∷◌, length, get_or, replicate, ◌+◌, Bool, true, false, Option, Some, None, refl, sym, ap, ◌∙◌, subst, arith}
 use Rattle.std.specs.Prelude.{is_some, slice_index_or, IfSome}
 use Rattle.std.specs.List.{All}
-use Rattle.std.proofs.lemmas.List.{length-replicate}
+use Rattle.std.proofs.lemmas.List.{length-replicate, length-drop, get_or-drop}
 use Rattle.std.proofs.lemmas.List.Elements.{All-get_or}
-use Rattle.std.proofs.lemmas.List.FromFn.{length-map-range_with_len, get_or-map-range_with_len}
+use Rattle.std.proofs.lemmas.List.FromFn.{length-map-range_with_len, fill_by_all}
 use Rattle.page_base.specs.Drive.{Drive, meta_pages, total_pages, die_share}
-use Rattle.image_format.specs.declared.faults.ImageFault.{ImageFault}
 use Rattle.image_format.specs.declared.meta.Meta.{Meta}
-use Rattle.image_format.specs.Image.{Image, read_image}
-use Rattle.image_format.specs.Tables.{Mounts}
-use Rattle.image_format.specs.Whole.{block_at, IsWhole}
+use Rattle.image_format.specs.Whole.{IsWhole}
+use Rattle.image_laws.specs.Pages.{data_blocks}
 use Rattle.flash_die.specs.Dies.{DieView, IsDie, AreWhole}
 use Rattle.core_state.specs.State.{Page}
 use Rattle.core_state.specs.Words.{from_fn}
@@ -18,7 +16,6 @@ use Rattle.system_state.specs.Views.{IsTold, pages_or_none}
 use Rattle.system_state.specs.Slots.{die_at}
 use Rattle.system_start.specs.Started.{at_home, data_in, pages_of, MayStart}
 use Rattle.system_start.specs.Empty.{empty_of}
-use Rattle.system_start.proofs.Mounted.{mounted_whole}
 
 no_mark : (n b : ℕ) → slice_index_or (replicate n false) b false ≡ false
 no_mark zero b = refl
@@ -29,12 +26,17 @@ data_count : (m : Meta) (pages : ℕ → Page) → length (data_in m pages) ≡ 
 unfolding from_fn
 data_count m pages = length-map-range_with_len (λ (b : ℕ). pages (meta_pages m.geometry.blocks + b)) 0 m.geometry.blocks
 
-data_here : (m : Meta) (pages : ℕ → Page) (b : ℕ) → b < m.geometry.blocks → block_at (data_in m pages) b ≡ pages (meta_pages m.geometry.blocks + b)
+-- the data blocks of dies that have these pages
+same_data : (m : Meta) (pages : ℕ → Page) (all : List Page) → length all ≡ total_pages m.geometry.blocks →
+    ((p : ℕ) → p < total_pages m.geometry.blocks → pages p ≡ get_or all p []) → data_blocks m all ≡ data_in m pages
 unfolding from_fn
-data_here m pages b l = get_or-map-range_with_len (λ (x : ℕ). pages (meta_pages m.geometry.blocks + x)) 0 m.geometry.blocks b b [] l (omega arith)
-
-below : (n b : ℕ) → b < n → meta_pages n + b < total_pages n
-below n b l = omega arith
+same_data m pages all count same =
+    fill_by_all (λ (b : ℕ). pages (meta_pages m.geometry.blocks + b)) (data_blocks m all) m.geometry.blocks []
+        (let d = length-drop (meta_pages m.geometry.blocks) all in omega arith)
+        (λ b l. get_or-drop (meta_pages m.geometry.blocks) all b [] ∙ sym (same (meta_pages m.geometry.blocks + b) (below m.geometry.blocks b l)))
+  where
+    below : (n b : ℕ) → b < n → meta_pages n + b < total_pages n
+    below n b l = omega arith
 
 pub empty_whole : (g : Drive) (pages : ℕ → Page) → IsWhole (empty_of g) (data_in (empty_of g) pages)
 empty_whole g pages = record {
@@ -78,18 +80,13 @@ module _ {D : Type 0} (seen : D → DieView) (sound : (x : D) → IsDie (seen x)
     whole = empty_whole g (pages_of seen dies);
   }
 
-  pub mounted_starts : (dies : List D) (bytes : List ℕ) (m : Meta) (all : List Page) → Mounts bytes m all (read_image bytes) → length dies ≡ m.geometry.dies →
+  pub mounted_starts : (dies : List D) (m : Meta) (all : List Page) → IsWhole m (data_blocks m all) → length all ≡ total_pages m.geometry.blocks → length dies ≡ m.geometry.dies →
       ((d : ℕ) → d < length dies → is_some (die_at seen (at_home dies) d).pages ≡ true) →
       ((d : ℕ) → d < length dies → (die_at seen (at_home dies) d).size ≡ die_share (total_pages m.geometry.blocks) (length dies) d) →
       ((p : ℕ) → p < total_pages m.geometry.blocks → pages_of seen dies p ≡ get_or all p []) → MayStart seen dies m
-  mounted_starts dies bytes m all mounts count told size same = record {
+  mounted_starts dies m all whole full count told size same = record {
     count = count;
     told = λ d l. told_at dies d (told d l);
     size = size;
-    whole = at (read_image bytes) refl mounts;
+    whole = subst (λ (body : List Page). IsWhole m body) (same_data m (pages_of seen dies) all full same) whole;
   }
-    where
-      at : (r : Result Image ImageFault) → read_image bytes ≡ r → Mounts bytes m all r → IsWhole m (data_in m (pages_of seen dies))
-      at (Ok i) e h = mounted_whole bytes i m all (data_in m (pages_of seen dies)) e h (data_count m (pages_of seen dies))
-          (λ b l. data_here m (pages_of seen dies) b l ∙ same (meta_pages m.geometry.blocks + b) (below m.geometry.blocks b l))
-      at (Err f) e h = absurd h
