@@ -1,9 +1,12 @@
 //! A directory that has just begun, of its parts.
 ghost use Rattle.std.specs.Prelude.{◌≡◌, ◌≤◌, [], List, replicate, vec_capacity, None};
+ghost use Rattle.page_base.specs.Drive.{IsDrive};
+ghost use Rattle.name_table.specs.Files.{IsTable};
+ghost use Rattle.extent_map.specs.Places.{IsSound};
 ghost use Rattle.system_start.specs.Started.{at_home};
 ghost use Rattle.system_start.specs.Fresh.{AreFresh, IsFresh, sizes_of};
 
-use crate::parts::{Homes, note_start};
+use crate::parts::{Crew, note_start};
 use crate::starting::Options;
 use crate::tables::Tables;
 use image_format::Meta;
@@ -24,36 +27,55 @@ fn sizes_of(meta: &Meta, options: Options) -> Sizes
     }
 }
 
+// What holds of all meta data by its types.
+fn look(meta: &Meta)
+    ensures drive { IsDrive meta.now.geometry.blocks meta.now.geometry.dies }
+    ensures table { IsTable meta.now.names }
+    ensures sound { IsSound meta.now.extents }
+{
+    let _drive = meta.geometry.blocks();
+    let _table = meta.names.len();
+    let _sound = meta.extents.blocks();
+}
+
 // The state before any event.
 pub(crate) fn join<D: Drop, J: Drop>(
     meta: Meta,
     options: Options,
     tables: Tables,
-    homes: Homes<D>,
-    jobs: Vec<Option<J>>,
+    crew: Crew<D, J>,
 ) -> State<D, J>
     requires tables { AreFresh meta options.lanes tables }
-    requires spare { homes.spare.items ≡ [] }
-    requires room { meta.geometry.dies ≤ vec_capacity homes.spare }
-    requires jobs { jobs.items ≡ replicate options.lanes None }
-    ensures { (dies : List D) → homes.slots.items ≡ at_home dies → IsFresh dies meta options.lanes options.place result }
+    requires spare { crew.spare.items ≡ [] }
+    requires room { meta.geometry.dies ≤ vec_capacity crew.spare }
+    requires jobs { crew.jobs.items ≡ replicate options.lanes None }
+    ensures drive { IsDrive meta.geometry.blocks meta.geometry.dies }
+    ensures table { IsTable meta.names }
+    ensures sound { IsSound meta.extents }
+    ensures fresh { (dies : List D) → crew.slots.items ≡ at_home dies → IsFresh dies meta options.lanes options.place result }
 {
     let sizes = sizes_of(&meta, options);
+    look(&meta);
+    let Tables {
+        blocks,
+        rows,
+        lists,
+    } = tables;
     let told = note_start(&sizes.blocks, &sizes.lanes, &sizes.dies);
     State {
         sizes,
-        pair: tables.pair,
+        pair: blocks.pair,
         meta,
-        functions: tables.functions,
-        ranges: tables.ranges,
-        lanes: tables.lanes,
-        calls: tables.calls,
-        jobs,
-        queue: tables.queue,
-        pins: tables.pins,
+        functions: lists.functions,
+        ranges: lists.ranges,
+        lanes: rows.lanes,
+        calls: rows.calls,
+        jobs: crew.jobs,
+        queue: lists.queue,
+        pins: blocks.pins,
         taken: Taken { host: 0, drive: 0 },
-        rack: Rack { slots: homes.slots },
-        spare: homes.spare,
+        rack: Rack { slots: crew.slots },
+        spare: crew.spare,
         closer: 0,
         last: 0,
         places: Places {

@@ -3,21 +3,21 @@ use Rattle.system_state.specs.declared.state.Sizes.{Sizes}
 use Rattle.system_start.specs.Fresh.{told_yet}
 use Rattle.system_start.proofs.joining.join.Goals as goal
 
-pub returns : goal.returns
-returns g c = λ dies home.
+pub returns-clause-fresh : goal.returns-clause-fresh
+returns-clause-fresh g c = λ dies home.
     let t = c.requires.tables in
     record {
       sizes = c.sizes_of-sizes.ensures;
-      pair = t.pair;
+      pair = t.blocks.pair;
       meta_is = refl;
-      functions = t.functions;
-      room = t.room;
-      ranges = t.ranges;
-      lanes_are = t.lanes_are;
-      calls = t.calls;
+      functions = t.lists.functions;
+      room = t.lists.room;
+      ranges = t.lists.ranges;
+      lanes_are = t.rows.lanes_are;
+      calls = t.rows.calls;
       jobs = c.requires.jobs;
-      queue = t.queue;
-      pins = t.pins;
+      queue = t.lists.queue;
+      pins = t.blocks.pins;
       taken = refl;
       rack = home;
       spare = c.requires.spare;
