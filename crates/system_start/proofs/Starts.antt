@@ -1,7 +1,6 @@
 -- Which dies may start: those with the pages that an image mounts to, and any under the tables of a drive without files.
-use Rattle.std.proofs.Common.{◌≡◌, ℕ, zero, suc, ◌<◌, List, [], ◌∷◌, length, get_or, replicate, ◌+◌, Bool, true, false, Option, Some, None, refl, sym, ap, ◌∙◌, subst, arith}
+use Rattle.std.proofs.Common.{◌≡◌, ℕ, zero, suc, ◌<◌, List, [], ◌∷◌, length, get_or, replicate, ◌+◌, true, false, Option, Some, None, refl, sym, ap, ◌∙◌, subst, arith}
 use Rattle.std.specs.Prelude.{is_some, slice_index_or, IfSome}
-use Rattle.std.specs.List.{All}
 use Rattle.std.proofs.lemmas.List.{length-replicate, length-drop, get_or-drop}
 use Rattle.std.proofs.lemmas.List.Elements.{All-get_or}
 use Rattle.std.proofs.lemmas.List.FromFn.{length-map-range_with_len, fill_by_all}
@@ -32,8 +31,8 @@ same_data : (m : Meta) (pages : ℕ → Page) (all : List Page) → length all �
 unfolding from_fn
 same_data m pages all count same =
     fill_by_all (λ (b : ℕ). pages (meta_pages m.geometry.blocks + b)) (data_blocks m all) m.geometry.blocks []
-        (let d = length-drop (meta_pages m.geometry.blocks) all in omega arith)
-        (λ b l. get_or-drop (meta_pages m.geometry.blocks) all b [] ∙ sym (same (meta_pages m.geometry.blocks + b) (below m.geometry.blocks b l)))
+    (let d = length-drop (meta_pages m.geometry.blocks) all in omega arith)
+    (λ b l. get_or-drop (meta_pages m.geometry.blocks) all b [] ∙ sym (same (meta_pages m.geometry.blocks + b) (below m.geometry.blocks b l)))
   where
     below : (n b : ℕ) → b < n → meta_pages n + b < total_pages n
     below n b l = omega arith
