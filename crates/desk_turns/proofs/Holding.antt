@@ -1,8 +1,6 @@
 -- What an actor holds stays under the events of others.
-use Rattle.std.proofs.Common.{◌≡◌, ℕ, ◌+◌, Bool, true, false, List, [], ◌∷◌, ◌++◌, map, Option, Some, None, refl, sym, ap, ◌∙◌, subst, inl, inr, ⊎_elim, arith}
-use Rattle.std.specs.Prelude.{◌≢◌, ◌⊎◌, ◌==◌, if◌then◌else◌, is_some}
-use Rattle.std.proofs.lemmas.Bool.Decides.{nat_tests}
-use mathlib.Core.List.{map-append}
+use Rattle.std.proofs.Common.{◌≡◌, ℕ, Bool, List, [], ◌∷◌, ◌++◌, Option, Some, None, refl, sym, ap, ◌∙◌, subst}
+use Rattle.std.specs.Prelude.{◌≢◌, if◌then◌else◌, is_some}
 use Rattle.std.specs.declared.snapshot.Snapshot.{Snapshot}
 use Rattle.turn_cell.specs.declared.book.Entry.{Entry}
 use Rattle.turn_cell.specs.Events.{events_of}
@@ -14,8 +12,9 @@ use Rattle.core_state.specs.declared.event.Event.TheVariants.{Report}
 use Rattle.core_state.specs.State.{LaneState, Phase, Running, Flight, Core}
 use Rattle.core_state.specs.Dies.{owner}
 use Rattle.core_state.specs.LaneEvents.{MayReport}
-use Rattle.core_state.specs.Hold.{Hold, HeldLane, hold, lane_alone, is_actor, is_some_actor, is_owner, owned_call, call_owned}
-use Rattle.core_state.specs.Happens.{CoreRun, Happens, May as MayHappen, actor_of, after}
+use Rattle.core_hold.proofs.Actors.{is_itself}
+use Rattle.core_state.specs.Hold.{Hold, HeldLane, hold, lane_alone, is_some_actor, is_owner, owned_call, call_owned}
+use Rattle.core_state.specs.Happens.{CoreRun, May as MayHappen, actor_of, after}
 use Rattle.core_state.specs.Coherent.{Coherent}
 use Rattle.core_state.specs.Happens.{after_all}
 use Rattle.desk_turns.specs.Passing.{Acts, IsItsOwn, May}
@@ -33,22 +32,6 @@ acts_other lanes n m a b p q ne = λ e. ne (go a b e p q)
         same (Worker l) x = x.0 ∙ sym x.1
         same (Flusher l) x = x.0 ∙ sym x.1
         same Closer x = x.0 ∙ sym x.1
-
-pub is_itself : (a : Actor) → is_actor a a ≡ true
-is_itself (Lane l) = grind (arith, nat_tests)
-is_itself (Worker l) = grind (arith, nat_tests)
-is_itself (Flusher l) = grind (arith, nat_tests)
-is_itself Closer = refl
-
-differs : (x y : ℕ) → x ≢ y → (x == y) ≡ false
-differs x y n = grind (arith, nat_tests)
-
-pub not_actor : (a b : Actor) → a ≢ b → is_actor a b ≡ false
-not_actor (Lane x) (Lane y) n = differs x y (λ e. n (ap (λ (k : ℕ). Lane k) e))
-not_actor (Worker x) (Worker y) n = differs x y (λ e. n (ap (λ (k : ℕ). Worker k) e))
-not_actor (Flusher x) (Flusher y) n = differs x y (λ e. n (ap (λ (k : ℕ). Flusher k) e))
-not_actor Closer Closer n = absurd (n refl)
-not_actor a b n = refl
 
 pub own_some : (l : ℕ) (x : LaneState) (f : Flight) → owner l f.phase ≡ Some (Lane l) → call_owned x (Lane l) l (Some f) ≡ Some (owned_call x f)
 own_some l x f e = ap (λ (t : Bool). if t then Some (owned_call x f) else None) (ap (is_some_actor (Lane l)) e ∙ is_itself (Lane l))
@@ -85,7 +68,7 @@ module _ {S : Type 0} (core : S → Core) where
   others_hold o n a c0 (x ∷ xs) c c2 acts own same h r s =
       others_hold o n a c0 xs (after c x.event) c2 acts own
       (holds_kept x.event c (after c x.event) a h s.0 (acts_other (core o.value).shape.lanes n x.number a (actor_of x.event) acts r.1 (λ e. r.0 (sym e)))
-          (λ w l e. not_reported c0 c a w l same own (reports c x.event w l s.0.may e)) ∙ same)
+      (λ w l e. not_reported c0 c a w l same own (reports c x.event w l s.0.may e)) ∙ same)
       (coherent_after x.event c (after c x.event) h s.0) r.2 s.1
 
 pub shapes_kept : (es : List Event) (c : Core) → (after_all c es).shape ≡ c.shape

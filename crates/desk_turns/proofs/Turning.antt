@@ -1,12 +1,11 @@
 -- From a take, an event method and a give to one turn.
-use Rattle.std.proofs.Common.{◌≡◌, ℕ, ◌+◌, Bool, true, false, List, [], ◌∷◌, ◌++◌, map, cond, Option, Some, None, refl, sym, ap, ◌∙◌, subst, inl, inr, ⊎_elim, arith, eq-eqb, append_assoc, append-nil, length, length-append}
-use Rattle.std.specs.Prelude.{◌≢◌, ◌⊎◌, ◌==◌, if◌then◌else◌}
+use Rattle.std.proofs.Common.{◌≡◌, ℕ, Bool, true, false, List, [], ◌∷◌, ◌++◌, map, cond, refl, sym, ap, ◌∙◌, subst, inl, inr, ⊎_elim, eq-eqb, append-nil}
 use mathlib.Core.List.{map-append}
 use Rattle.std.specs.declared.snapshot.Snapshot.{Snapshot}
 use Rattle.turn_cell.specs.declared.book.Entry.{Entry}
 use Rattle.turn_cell.specs.declared.view.View.{View}
 use Rattle.turn_cell.specs.Events.{events_of}
-use Rattle.turn_cell.specs.History.{entry, entries_of, AreOthers, MayMake}
+use Rattle.turn_cell.specs.History.{entry, entries_of}
 use Rattle.turn_cell.specs.Steps.{Sees, Others, Adds, Extends, seeing}
 use Rattle.turn_cell.proofs.Plain.{entries_append}
 use Rattle.turn_cell.proofs.Clients.{gives_none, gives_one}
@@ -16,7 +15,6 @@ use Rattle.core_state.specs.State.{Core}
 use Rattle.core_state.specs.Hold.{hold}
 use Rattle.core_state.specs.Happens.{CoreRun, actor_of}
 use Rattle.core_state.specs.Coherent.{Coherent}
-use Rattle.core_state.specs.Happens.{after_all}
 use Rattle.core_state.proofs.Runs.{leads_to}
 use Rattle.desk_turns.specs.Passing.{Acts, IsItsOwn, May, ActsFor, core_after, core_seen, Turn}
 use Rattle.desk_turns.specs.Making.{AreFew, AreOf}
@@ -76,10 +74,10 @@ module _ {S : Type 0} (core : S → Core) (stands : S → S → List (Entry Even
       (h : List (Entry Event)) × stands t o.value h × Adds (May core) o u h
   gives t o v u a es few of acts sees is = ⊎_elim
       (λ (z : es ≡ []). gives_none (λ (b : S) (x : Snapshot S) (h : List (Entry Event)). stands b x.value h) (May core) t o u
-          (subst (λ (h : List (Entry Event)). stands t o.value h) (ap (λ (x : List Event). u.seen ++ map (entry u.number) x) z ∙ append-nil u.seen) is))
+      (subst (λ (h : List (Entry Event)). stands t o.value h) (ap (λ (x : List Event). u.seen ++ map (entry u.number) x) z ∙ append-nil u.seen) is))
       (λ (z : (e : Event) × (es ≡ e ∷ [])). gives_one (λ (b : S) (x : Snapshot S) (h : List (Entry Event)). stands b x.value h) (May core) t o v u z.0 sees
-          (subst (λ (h : List (Entry Event)). stands t o.value h) (ap (λ (x : List Event). u.seen ++ map (entry u.number) x) z.1) is)
-          (let mine : actor_of z.0 ≡ a = (subst (AreOf a) z.1 of).0 in ⊎_elim (λ e. inl e) (λ p. inr (subst (Acts (core o.value).shape.lanes v.number) (sym mine) p)) acts)) few
+      (subst (λ (h : List (Entry Event)). stands t o.value h) (ap (λ (x : List Event). u.seen ++ map (entry u.number) x) z.1) is)
+      (let mine : actor_of z.0 ≡ a = (subst (AreOf a) z.1 of).0 in ⊎_elim (λ e. inl e) (λ p. inr (subst (Acts (core o.value).shape.lanes v.number) (sym mine) p)) acts)) few
 
   extends : (u : View (Snapshot S) Event) (es : List Event) → AreFew es → Extends u (u.seen ++ map (entry u.number) es)
   extends u es few = ⊎_elim
@@ -139,7 +137,7 @@ module _ {S : Type 0} (core : S → Core) (stands : S → S → List (Entry Even
   seen_core s t p q v u w es same few made give =
       is_after t p (u.seen ++ map (entry u.number) es) made
       ∙ ((λ i. core_after core (same i) (u.seen ++ map (entry u.number) es))
-          ∙ ap (λ (z : View (Snapshot S) Event). core_after core q z.seen) (sym (give (u.seen ++ map (entry u.number) es) made (extends u es few))))
+      ∙ ap (λ (z : View (Snapshot S) Event). core_after core q z.seen) (sym (give (u.seen ++ map (entry u.number) es) made (extends u es few))))
 
   -- the same of the core that was seen, where no book was handed out: some book stands for the history at every moment
   pub worn_found : (s : S) (p q : Snapshot S) (v u : View (Snapshot S) Event) (a : Actor) → p ≡ q → stands s p.value u.seen → Sees v u → Others (May core) q v u → (v.alone ≡ true → u.seen ≡ v.seen) →
