@@ -66,7 +66,7 @@ pub fn opening_stands()
         (plain (opening_core (image_in m pages) lanes place)).capacity ≡ m.geometry.blocks }
 {}
 
-/// Where a directory may start over some dies, the plain state of its opening core has the files and the next id that the tables and the dies'
+/// Where a system may start over some dies, the plain state of its opening core has the files and the next id that the tables and the dies'
 /// data blocks stand for.
 pub fn started_stands<D: Die>()
     ensures { (dies : List D) (m : Meta) (lanes : ℕ) (place : Place) → MayStart D.seen dies m → IsDrive m.geometry.blocks m.geometry.dies →

@@ -18,7 +18,7 @@ use Rattle.core_state.specs.Happens.{CoreRun, May as MayHappen, actor_of, after}
 use Rattle.core_state.specs.Coherent.{Coherent}
 use Rattle.core_state.specs.Happens.{after_all}
 use Rattle.desk_turns.specs.Passing.{Acts, IsItsOwn, May}
-use Rattle.desk_turns.proofs.Laws.{holds_kept, coherent_after, shape_kept}
+use Rattle.desk_turns.proofs.Shapes.{holds_kept, coherent_after, shape_kept}
 
 -- two actors of one pass number; another number is another actor
 pub acts_other : (lanes n m : ℕ) (a b : Actor) → Acts lanes n a → Acts lanes m b → n ≢ m → a ≢ b

@@ -8,7 +8,7 @@ mod fault;
 mod forms;
 mod instruction;
 mod labels;
-mod laws;
+pub mod laws;
 mod lexing;
 mod mnemonic;
 mod numbers;
@@ -21,7 +21,6 @@ mod words;
 pub use assembling::{assemble, assemble_bytes};
 pub use disassembling::disassemble;
 pub use fault::{AsmFault, AsmKind, TextErr};
-pub use laws::only_labels_are_left;
 
 #[cfg(test)]
 mod tests;

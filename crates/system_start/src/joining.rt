@@ -1,4 +1,4 @@
-//! A directory that has just begun, of its parts.
+//! A system that has just begun, of its parts.
 ghost use Rattle.std.specs.Prelude.{◌≡◌, ◌≤◌, [], List, replicate, vec_capacity, None};
 ghost use Rattle.page_base.specs.Drive.{IsDrive};
 ghost use Rattle.name_table.specs.Files.{IsTable};

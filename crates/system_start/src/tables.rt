@@ -1,4 +1,4 @@
-//! The tables of a directory that has just begun, which have neither its dies nor its jobs. They are made a few at a time.
+//! The tables of a system that has just begun, which have neither its dies nor its jobs. They are made a few at a time.
 ghost use Rattle.std.specs.Prelude.{◌≡◌, ◌≤◌, IfOk};
 ghost use Rattle.image_format.specs.Tables.{IsOneSize};
 ghost use Rattle.system_start.specs.Fresh.{AreNewBlocks, AreNewRows, AreNewLists, AreFresh};

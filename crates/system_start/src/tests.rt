@@ -45,7 +45,7 @@ fn zero_die(alloc: Global, pages: u32) -> Result<DieMem, NoMemory>
     Ok(DieMem::new(zero_pages(alloc, pages)?, plan))
 }
 
-// The directory of a drive of one die, without files.
+// The system of a drive of one die, without files.
 fn start_empty(
     alloc: Global,
     geometry: Geometry,
