@@ -67,6 +67,10 @@ at_room (Paged pages from k) items start len n h p =
     let many = ap length h.0 in
     record { whole = subst AreWhole h.0 p.3; fits = omega (arith, many, h.1, h.2, p.2); within = omega (arith, h.2, p.0) }
 
+-- every page of an input has 4,096 bytes
+pub read_whole : (ready : Regions) (items : List (List ℕ)) (start len : ℕ) → IsShaped ready → IsAt ready.input items start len → AreWhole items
+read_whole ready items start len s at = (at_room ready.input items start len ready.input_len at s.input).whole
+
 -- what differs, of pages that a region lies in
 record Differ (old new : List (List ℕ)) (start n : ℕ) : Type 0 where
   whole : AreWhole new
@@ -134,6 +138,7 @@ over_at old new start len w fits d i j l k = sym (byte_at new i j zero_page d.wh
 -- what a run leaves of the pages of its output
 pub record Wrote (code : List Insn) (fuel : ℕ) (input param : List ℕ) (outcome : Outcome) (old new : List (List ℕ)) (start len : ℕ) : Type 0 where
   pub ran : machine.run code (machine.shaped input (span_part old start len) param) fuel ≡ outcome_of outcome (span_part new start len)
+  pub whole : AreWhole old
   pub long : length (span_part new start len) ≡ len
   pub many : length new ≡ length old
   pub bytes : (i j : ℕ) → i < length old → j < 4096 → get_or (page_in new i) j 0 ≡ over start (span_part new start len) (4096 * i + j) (get_or (page_in old i) j 0)
@@ -152,6 +157,7 @@ write_run code fuel input param old start len ready after outcome s e at within 
     let all : (machine_regions after).output ≡ span_part new start len = ap (λ (b : List ℕ). take after.output_len b) bytes ∙ take_past (span_part new start len) after.output_len (omega arith) in
     record {
       ran = ap (λ (m : machine.Regions). machine.run code m fuel) (sym e) ∙ (ran ∙ ap (outcome_of outcome) all);
+      whole = room.whole;
       long = long;
       many = d.many;
       bytes = over_at old new start len room.whole room.fits d;

@@ -1,7 +1,7 @@
 //! Runs of a function over the pages of a span.
 ghost use Rattle.std.specs.Prelude.{◌≡◌, ◌+◌, ◌*◌, ◌^◌, ◌<◌, ◌≤◌, ℕ, length, get_or};
 ghost use Rattle.sbpf_insn.specs.Machine as machine;
-ghost use Rattle.sbpf_exec.specs.Buffers.{region_bytes};
+ghost use Rattle.sbpf_exec.specs.Buffers.{region_bytes, AreWhole};
 ghost use Rattle.sbpf_exec.specs.Outcomes.{outcome_of, UsesAtMost};
 ghost use Rattle.sbpf_exec.specs.Parts.{input_of, output_of, param_of};
 ghost use Rattle.span_bytes.specs.Kinds.{IsFlat, IsPaged, pages_of};
@@ -87,6 +87,7 @@ pub fn run_reading(
     requires param { length (param_of regions.old) ≤ 2 ^ 32 }
     ensures outcome { machine.run code.now.insns (machine.shaped (span_part pages.items start len) output (param_of regions.old)) fuel ≡ outcome_of result.outcome result.flat }
     ensures fuel { UsesAtMost fuel result.outcome }
+    ensures whole { AreWhole pages.items }
     ensures pages { result.pages.items ≡ pages.items }
     ensures output { length result.flat ≡ length output }
     ensures param { param_of regions.new ≡ param_of regions.old }
@@ -123,6 +124,7 @@ pub fn run_writing(
     requires param { length (param_of regions.old) ≤ 2 ^ 32 }
     ensures outcome { machine.run code.now.insns (machine.shaped input (span_part pages.items start len) (param_of regions.old)) fuel ≡ outcome_of result.outcome (span_part result.pages.items start len) }
     ensures fuel { UsesAtMost fuel result.outcome }
+    ensures whole { AreWhole pages.items }
     ensures input { result.flat ≡ input }
     ensures count { length result.pages.items ≡ length pages.items }
     ensures output { length (span_part result.pages.items start len) ≡ len }

@@ -33,3 +33,6 @@ returns-clause-output c = (wrote c).long
 
 pub returns-clause-bytes : goal.returns-clause-bytes
 returns-clause-bytes c = (wrote c).bytes
+
+pub returns-clause-whole : goal.returns-clause-whole
+returns-clause-whole c = (wrote c).whole
