@@ -1,5 +1,6 @@
 -- Words that the turns share. This project's own.
-use Rattle.std.specs.Prelude.{◌≡◌, ℕ, ◌+◌, List, ◌∷◌, ◌++◌, length, Some}
+use Rattle.std.specs.Prelude.{◌≡◌, ℕ, ◌+◌, ◌^◌, ◌<◌, ◌≤◌, List, ◌∷◌, ◌++◌, length, Some}
+use Rattle.coherence.specs.Paired.{flags_at}
 use Rattle.std.specs.declared.snapshot.Snapshot.{Snapshot}
 use Rattle.turn_cell.specs.declared.view.View.{View}
 use Rattle.plain_files.specs.declared.calls.Call.{Call}
@@ -11,6 +12,7 @@ use Rattle.core_state.specs.State.{Core}
 use Rattle.core_state.specs.Coherent.{Coherent}
 use Rattle.core_state.specs.Hold.{hold}
 use Rattle.core_state.specs.History.{entry_of}
+use Rattle.system_state.specs.declared.state.State.{State}
 use Rattle.desk_turns.specs.Passing.{core_seen}
 
 -- From one view to a later one the actor holds what it held, and the core as it is seen then is coherent.
@@ -28,3 +30,12 @@ pub record IsNumbered (last : ℕ) (calls : List Entry) (number : ℕ) (entry : 
   pub rest : List Entry
   pub split : calls ≡ before ++ entry ∷ rest
   pub number_is : number ≡ last + length before + 1
+
+-- No number that was drawn, no count and no version is above 2^62: a turn has fewer events than that, so that all of them stay below 2^64.
+pub record IsSmall {D J : Type 0} (s : State D J) : Type 0 where
+  pub last : s.last ≤ 2 ^ 62
+  pub host : s.places.host ≤ 2 ^ 62
+  pub drive : s.places.drive ≤ 2 ^ 62
+  pub reads : s.places.reads ≤ 2 ^ 62
+  pub writes : s.places.writes ≤ 2 ^ 62
+  pub versions : (b : ℕ) → b < s.sizes.blocks → (flags_at s.pair b).version ≤ 2 ^ 62
