@@ -1,3 +1,4 @@
 pub mod Begins
 pub mod Syncs
 pub mod Quicks
+pub mod Wanting

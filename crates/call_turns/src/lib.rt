@@ -3,6 +3,7 @@
 
 mod beginning;
 mod ending;
+pub mod laws;
 mod quick;
 
 pub use beginning::turn_begin;
