@@ -1,0 +1,9 @@
+pub mod Outcome
+pub mod Lists
+pub mod Codes
+pub mod Loads
+pub mod Named
+pub mod Effects
+pub mod InTheWay
+pub mod Gone
+pub mod Order

@@ -1,0 +1,18 @@
+use Rattle.std.proofs.Common.{ap}
+use Rattle.plain_files.specs.declared.calls.Call.TheVariants.{Create}
+use Rattle.system_quick.proofs.Outcome.{is_answered, row_there, kept_of, coherent_of, early_of, outcome_for}
+use Rattle.system_quick.proofs.Effects.{create_outcome}
+use Rattle.system_quick.proofs.calls.create_file.Goals as goal
+
+pub answered-requires-clause-row : goal.answered-requires-clause-row
+answered-requires-clause-row g c = row_there g.D.Die.seen g.J.CallJob.suits c.args.state.now c.args.lane c.args.request.now c.requires.asked
+
+pub answered-requires-clause-last : goal.answered-requires-clause-last
+answered-requires-clause-last g c = c.requires.asked.last
+
+pub returns : goal.returns
+returns g c =
+    let e = early_of g.D.Die.seen g.J.CallJob.suits c.args.state.now c.args.lane c.args.request.now (Create c.args.word.now) c.requires.asked c.requires.call in
+    is_answered g.D.Die.seen g.J.CallJob.suits c.args.state.now c.args.lane c.args.request.now c.requires.asked c.create_named-reply.result (record c.args.state.now { meta = record c.args.state.now.meta { names = c.create_named-reply.new.names } })
+    (outcome_for g.D.Die.seen g.J.CallJob.suits c.args.state.now (record c.args.state.now { meta = record c.args.state.now.meta { names = c.create_named-reply.new.names } }) c.args.request.now.call (Create c.args.word.now) c.create_named-reply.result _ c.requires.call c.create_named-reply.ensures.reply (create_outcome g.D.Die.seen g.J.CallJob.suits c.args.state.now (kept_of g.D.Die.seen g.J.CallJob.suits c.args.state.now c.args.lane c.args.request.now c.requires.asked) (coherent_of g.D.Die.seen g.J.CallJob.suits c.args.state.now c.args.lane c.args.request.now c.requires.asked) c.len-files.ensures.sound c.args.word.now e _ (ap (λ w. record c.args.state.now { meta = record c.args.state.now.meta { names = w } }) c.create_named-reply.ensures.table)))
+    c.answered.new.state c.answered.ensures.replied g.met.D.Die.sound c.answered.result c.answered.ensures.number c.answered.ensures.reply

@@ -1,0 +1,7 @@
+use Rattle.std.proofs.Common.{◌≡◌, ℕ, get_or, None}
+use Rattle.core_state.specs.Words.{first_to}
+use Rattle.system_quick.specs.Rows.{row_holds}
+use Rattle.system_quick.proofs.holders.least_holder.Given as goal
+
+abbrev pub invariant-loop-lane : goal.invariant-loop-lane
+invariant-loop-lane l = l.least ≡ first_to l.lane (λ (j : ℕ). row_holds l.file (get_or l.calls j None))

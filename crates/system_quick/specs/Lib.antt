@@ -1,0 +1,4 @@
+pub mod Replied
+pub mod Tables
+pub mod Rows
+pub mod Waits
