@@ -7,3 +7,4 @@ pub mod BlockLaws
 pub mod KeptSteps
 pub mod Later
 pub mod FirstWords
+pub mod CallBytes

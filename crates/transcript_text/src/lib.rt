@@ -1,6 +1,7 @@
 //! Transcripts as text: their lines are printed, and a transcript is read.
 #![tactic(auto)]
 
+pub mod laws;
 mod printing;
 mod replies;
 #[cfg(test)]
