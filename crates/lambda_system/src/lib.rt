@@ -5,6 +5,7 @@
 #![tactic(auto)]
 
 mod book;
+mod calls;
 mod dies;
 mod lanes;
 mod pages;
@@ -12,5 +13,7 @@ mod system;
 
 pub use pages::Step;
 pub use system::System;
+pub use system_begin::Begun;
+pub use system_quick::Loading;
 pub use system_start::Options;
 pub use system_state::{Errand, NotYet, Places};
