@@ -1,0 +1,1 @@
+-- The pages of a call are enough, and few.

@@ -1,0 +1,35 @@
+use Rattle.std.proofs.Common.{refl}
+use Rattle.system_state.specs.Cores.{core_of}
+use Rattle.desk_turns.proofs.Went.{worn_went, if_err}
+use Rattle.event_turns.specs.LaneTurns.{ClosingSays}
+use Rattle.event_turns.proofs.Taking.{gave_back, turned_back, worn_all}
+use Rattle.event_turns.proofs.Keeping.{closes}
+use Rattle.event_turns.proofs.Taking.{coherent_back}
+use Rattle.event_turns.proofs.lanes.turn_closing.Goals as goal
+
+pub give-requires-clause-stands : goal.give-requires-clause-stands
+give-requires-clause-stands g c =
+    let a = c.in_ok-system.ensures in
+    gave_back g.D.Die.seen g.J.CallJob.suits c.in_ok-system.system.state (g.K.Desk.opening c.take.new.self) (g.K.Desk.view c.take.new.self) a.ok.1
+
+pub returns-clause-did : goal.returns-clause-did
+returns-clause-did g c =
+    let a = c.in_ok-system.ensures in
+    let s = c.in_ok-system.system.state in
+    let p = g.K.Desk.opening c.take.new.self in
+    let q = g.K.Desk.opening c.args.desk.now in
+    let v = g.K.Desk.view c.args.desk.now in
+    let u = g.K.Desk.view c.take.new.self in
+    let h = coherent_back g.D.Die.seen g.J.CallJob.suits s p u a.ok.1 in
+    turned_back g.D.Die.seen g.J.CallJob.suits s p q v u (g.K.Desk.view c.give.new.self) (ClosingSays c.closing-closes.result) a.turn.1 a.ok.1 a.seen a.between a.alone c.give.ensures.seen
+    (record { are = refl; closes = λ e. closes (core_of g.D.Die.seen s) h (c.closing-closes.ensures.left.0 e); open_still = λ x. c.closing-closes.ensures.left.1 x.left })
+
+pub returns-in_err-system-clause-went : goal.returns-in_err-system-clause-went
+returns-in_err-system-clause-went g c =
+    let a = c.in_err-system.ensures in
+    if_err c.from_residual.result (worn_went (g.K.Desk.view c.args.desk.now) (g.K.Desk.view c.take.new.self) a.seen a.alone)
+
+pub returns-in_err-system-clause-kept : goal.returns-in_err-system-clause-kept
+returns-in_err-system-clause-kept g c =
+    let a = c.in_err-system.ensures in
+    worn_all g.D.Die.seen g.J.CallJob.suits c.from_residual.result (g.K.Desk.opening c.take.new.self) (g.K.Desk.opening c.args.desk.now) (g.K.Desk.view c.args.desk.now) (g.K.Desk.view c.take.new.self) a.turn.1 a.stood a.seen a.between a.alone
