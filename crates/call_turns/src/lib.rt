@@ -3,6 +3,8 @@
 
 mod beginning;
 mod ending;
+mod quick;
 
 pub use beginning::turn_begin;
 pub use ending::turn_end_sync;
+pub use quick::turn_quick;
