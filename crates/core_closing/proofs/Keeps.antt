@@ -45,7 +45,7 @@ pub record IsAhead (k : ℕ) (c : Core) : Type 0 where
 
 -- ---- flags
 
-flag_put : {A : Type 0} (g : Block → A) (f : ℕ → Block) (b : ℕ) (x : Block) (j : ℕ) → g x ≡ g (f b) → g (put f b x j) ≡ g (f j)
+pub flag_put : {A : Type 0} (g : Block → A) (f : ℕ → Block) (b : ℕ) (x : Block) (j : ℕ) → g x ≡ g (f b) → g (put f b x j) ≡ g (f j)
 flag_put g f b x j same = ⊎_elim
     (λ (e : j ≡ b). ap g (ap (put f b x) e ∙ put-same f b x) ∙ (same ∙ ap (λ (z : ℕ). g (f z)) (sym e)))
     (λ (n : j ≢ b). ap g (put-other f b x j n)) (same_or_not j b)
@@ -57,6 +57,10 @@ copy_clean Drive p x = refl
 copy_written : (side : Side) (p : Option Page) (x : Block) → (with_copy side p x).written ≡ x.written
 copy_written Host p x = refl
 copy_written Drive p x = refl
+
+pub copy_version : (side : Side) (p : Option Page) (x : Block) → (with_copy side p x).version ≡ x.version
+copy_version Host p x = refl
+copy_version Drive p x = refl
 
 or_false : (t : Bool) → (t || false) ≡ t
 or_false true = refl
@@ -242,10 +246,10 @@ stored_kept c d es h s none clean r =
 
 -- ---- what is stored
 
-still_encodes : (encode : Core → ℕ → Page) (k : ℕ) (c d : Core) → IsOfDrive encode → KeepsFrom k c d → (n : ℕ) → encode d n ≡ encode c n
+pub still_encodes : (encode : Core → ℕ → Page) (k : ℕ) (c d : Core) → IsOfDrive encode → KeepsFrom k c d → (n : ℕ) → encode d n ≡ encode c n
 still_encodes encode k c d of p n = of c d p.shape p.names p.places p.written n
 
-zero_or_more : (n : ℕ) → (n ≡ 0) ⊎ (0 < n)
+pub zero_or_more : (n : ℕ) → (n ≡ 0) ⊎ (0 < n)
 zero_or_more n = grind arith
 
 -- with a die out for the meta data, or none
