@@ -1,0 +1,5 @@
+pub mod Taking
+pub mod Keeping
+pub mod Numbering
+pub mod Answering
+pub mod Errands

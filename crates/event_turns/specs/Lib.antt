@@ -1,0 +1,5 @@
+pub mod Words
+pub mod LaneTurns
+pub mod MetaTurns
+pub mod PageTurns
+pub mod JobTurns
