@@ -1,9 +1,8 @@
 -- The end of a `sync`.
-use Rattle.std.proofs.Common.{◌≡◌, ℕ, ◌+◌, ◌<◌, ◌≤◌, Bool, true, false, List, [], ◌∷◌, ◌++◌, Option, Some, None, refl, sym, ap, ◌∙◌, subst, inl, inr, arith}
+use Rattle.std.proofs.Common.{◌≡◌, ℕ, ◌<◌, Bool, true, false, Some, refl, sym, ap, ◌∙◌, subst, inl, arith}
 use Rattle.std.specs.Prelude.{if◌then◌else◌, Result, Ok, IfOk}
 use Rattle.std.specs.declared.snapshot.Snapshot.{Snapshot}
 use Rattle.page_base.specs.Drive.{meta_pages}
-use Rattle.turn_cell.specs.declared.book.Entry.{Entry}
 use Rattle.turn_cell.specs.declared.view.View.{View}
 use Rattle.turn_cell.specs.declared.pass.Worn.{Worn}
 use Rattle.turn_cell.specs.Events.{events_of}
@@ -21,18 +20,17 @@ use Rattle.core_state.specs.declared.actor.Actor.TheVariants.{Lane}
 use Rattle.core_state.specs.declared.event.Event.{Event}
 use Rattle.core_state.specs.declared.event.Event.TheVariants.{End}
 use Rattle.core_state.specs.State.{Shape, Claim, Reach, Flight, Core}
-use Rattle.core_state.specs.Reach.{is_sync, is_lambda, no_reach, claim_for, reach_of, len_or_none, file_for}
+use Rattle.core_state.specs.Reach.{is_sync, is_lambda, no_reach, reach_of, len_or_none, file_for}
 use Rattle.core_state.specs.PlainOf.{plain}
 use Rattle.core_state.specs.PageEvents.{flight_at}
-use Rattle.core_state.specs.InFlight.{claim_of, IsRight}
-use Rattle.core_state.specs.EndEvent.{MayEnd, EndsWell, has_changed}
+use Rattle.core_state.specs.InFlight.{claim_of}
+use Rattle.core_state.specs.EndEvent.{MayEnd, has_changed}
 use Rattle.core_state.specs.Coherent.{Coherent}
 use Rattle.core_state.specs.Hold.{hold}
 use Rattle.core_state.specs.History.{calls_of}
 use Rattle.system_ends.specs.Landed.{reply_at}
 use Rattle.system_state.specs.Jobs.{JobView}
 use Rattle.system_state.specs.Cores.{core_of}
-use Rattle.system_state.specs.Stands.{Stands}
 use Rattle.system_state.specs.declared.state.State.{State}
 use Rattle.desk_turns.specs.Passing.{Turn}
 use Rattle.flushes.proofs.Turning.{if_ok}

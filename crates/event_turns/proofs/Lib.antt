@@ -3,3 +3,4 @@ pub mod Keeping
 pub mod Numbering
 pub mod Answering
 pub mod Errands
+pub mod Nexts

@@ -6,6 +6,7 @@
 
 mod handing;
 mod lanes;
+pub mod laws;
 mod metas;
 mod pages;
 

@@ -1,20 +1,11 @@
-use Rattle.page_base.specs.Drive.{meta_pages}
-use Rattle.system_state.specs.declared.state.Sizes.{Sizes}
-use Rattle.std.proofs.Common.{refl, sym, subst, ap, ◌∙◌, ◌≡◌, ◌+◌, ◌<◌, ◌≤◌, ◌^◌, ◌∷◌, [], ℕ, List, Some, None, Ok, arith}
-use Rattle.core_state.specs.declared.actor.Actor.TheVariants.{Lane, Worker}
-use Rattle.core_state.specs.declared.event.Event.{Event}
-use Rattle.core_state.specs.declared.event.Event.TheVariants.{Enter, Leave, Submit, Report}
-use Rattle.core_state.specs.State.{Core, Shape, Queued, ToFill, ToMeta}
-use Rattle.core_state.specs.Dies.{owner}
-use Rattle.core_state.specs.LaneEvents.{result_of}
+use Rattle.std.proofs.Common.{refl, subst, Ok, arith}
+use Rattle.core_state.specs.declared.actor.Actor.TheVariants.{Lane}
 use Rattle.system_state.specs.Cores.{core_of}
 use Rattle.desk_turns.specs.Passing.{core_seen}
-use Rattle.desk_turns.proofs.Later.{none_kept, own_idle, own_held}
+use Rattle.desk_turns.proofs.Later.{none_kept, own_held}
 use Rattle.desk_turns.proofs.Went.{worn_went, if_err}
-use Rattle.desk_turns.proofs.Turning.{since}
-use Rattle.event_turns.proofs.Taking.{Found, stood, coherent_seen, more, found_at, DidAt, one_at, gave, turned, gave_back, turned_back, worn_holds, worn_all, worn_coherent}
-use Rattle.event_turns.proofs.Keeping.{again, own_flying, own_worker, idle_kept, leave_kept, enter_kept, own_outside, none_outside, store_kept, gather_kept, own_gathering, submit_kept, report_kept, unbusy_kept, result_kept, suits_again}
-use Rattle.event_turns.proofs.Numbering.{last_fits, reads_fit, begun_fit, versions_fit}
+use Rattle.event_turns.proofs.Taking.{Found, stood, found_at, one_at, gave, turned, worn_holds}
+use Rattle.event_turns.proofs.Numbering.{last_fits, versions_fit}
 use Rattle.core_state.specs.declared.event.Event.TheVariants.{End}
 use Rattle.std.specs.Result.{IsErr}
 use Rattle.call_turns.specs.Ending.{EndSays}
