@@ -1,5 +1,5 @@
 -- The event of a turn is the one that the run of one thread makes.
-use Rattle.std.proofs.Common.{◌≡◌, ℕ, ◌<◌, Bool, true, false, List, [], Option, Some, None, refl, sym, ap, ◌∙◌, subst, arith}
+use Rattle.std.proofs.Common.{◌≡◌, ℕ, Bool, true, false, List, [], Option, Some, None, sym, ap, ◌∙◌, arith}
 use Rattle.std.specs.Prelude.{if◌then◌else◌, is_some, nat_lt, slice_get}
 use Rattle.std.proofs.lemmas.Bool.Decides.{nat_tests}
 use Rattle.page_base.specs.Drive.{meta_pages}
@@ -8,7 +8,7 @@ use Rattle.core_state.specs.declared.event.Event.{Event}
 use Rattle.core_state.specs.declared.event.Event.TheVariants.{Copy, Take, DieOut}
 use Rattle.core_state.specs.declared.event.Purpose.TheVariants.{Fill, Meta}
 use Rattle.core_state.specs.State.{Page, Mode, Shared, Exclusive, Flight, Core}
-use Rattle.core_state.specs.Contents.{span_block, is_missing, die_of, die_of_page}
+use Rattle.core_state.specs.Contents.{span_block, is_missing, die_of}
 use Rattle.core_state.specs.Reach.{by_mode}
 use Rattle.core_state.specs.DieEvents.{MayMeta, is_home}
 use Rattle.core_solo.specs.Solo.{gather_event, flush_event, sync_event}
@@ -28,7 +28,7 @@ event_by : Bool → ℕ → Mode → Actor → ℕ → ℕ → Event
 event_by t n mode a lane i = if t then DieOut a n (Fill lane i) else by_mode mode (Copy a lane i) (Take a lane i)
 
 copies : {D : Type 0} → (mode : Mode) (a : Actor) (lane i n : ℕ) (t h : Bool) (x : Option (Errand D)) → mode ≡ Shared → way_by t h n ≡ way_gone x → copy_event a lane i x ≡ event_by t n mode a lane i
-unfolding way_by, event_by
+unfolding way_by event_by
 copies mode a lane i n true true None m e = absurd (cc)
 copies mode a lane i n true false None m e = absurd (cc)
 copies mode a lane i n false h None m e = sym (ap (λ (k : Mode). by_mode k (Copy a lane i) (Take a lane i)) m)
@@ -37,7 +37,7 @@ copies mode a lane i n true false (Some x) m e = absurd (cc)
 copies mode a lane i n false h (Some x) m e = absurd (cc)
 
 takes : {D : Type 0} → (mode : Mode) (a : Actor) (lane i n : ℕ) (t h : Bool) (x : Option (Errand D)) → mode ≡ Exclusive → way_by t h n ≡ way_gone x → take_event a lane i x ≡ event_by t n mode a lane i
-unfolding way_by, event_by
+unfolding way_by event_by
 takes mode a lane i n true true None m e = absurd (cc)
 takes mode a lane i n true false None m e = absurd (cc)
 takes mode a lane i n false h None m e = sym (ap (λ (k : Mode). by_mode k (Copy a lane i) (Take a lane i)) m)
@@ -46,12 +46,12 @@ takes mode a lane i n true false (Some x) m e = absurd (cc)
 takes mode a lane i n false h (Some x) m e = absurd (cc)
 
 copies_at : {D : Type 0} → (c : Core) (a : Actor) (lane i : ℕ) (call : Flight) (o : Option ℕ) (x : Option (Errand D)) → call.claim.reach.mode ≡ Shared → way_at c o ≡ way_gone x → copy_event a lane i x ≡ gather_event c a lane call i o
-unfolding way_by, event_by
+unfolding way_by event_by
 copies_at c a lane i call None x m e = copies call.claim.reach.mode a lane i 0 false false x m e
 copies_at c a lane i call (Some b) x m e = copies call.claim.reach.mode a lane i (die_of c.shape b) (is_missing (c.blocks b)) (is_home (c.dies (die_of c.shape b))) x m e
 
 takes_at : {D : Type 0} → (c : Core) (a : Actor) (lane i : ℕ) (call : Flight) (o : Option ℕ) (x : Option (Errand D)) → call.claim.reach.mode ≡ Exclusive → way_at c o ≡ way_gone x → take_event a lane i x ≡ gather_event c a lane call i o
-unfolding way_by, event_by
+unfolding way_by event_by
 takes_at c a lane i call None x m e = takes call.claim.reach.mode a lane i 0 false false x m e
 takes_at c a lane i call (Some b) x m e = takes call.claim.reach.mode a lane i (die_of c.shape b) (is_missing (c.blocks b)) (is_home (c.dies (die_of c.shape b))) x m e
 
