@@ -16,7 +16,7 @@ ghost use Rattle.call_turns.specs.Beginning.{BeginSays};
 
 use dispatcher::Side;
 use flash_die::Die;
-use flushes::System;
+use lambda_system::System;
 use plain_files::Request;
 use system_begin::{Begun, try_begin};
 use system_state::{CallJob, NotYet};

@@ -14,7 +14,7 @@ ghost use Rattle.event_turns.specs.Words.{StillHolds, IsNumbered, IsSmall};
 ghost use Rattle.call_turns.specs.Quick.{QuickSays};
 
 use flash_die::Die;
-use flushes::System;
+use lambda_system::System;
 use plain_files::{Numbered, Request};
 use system_quick::{Loading, try_quick};
 use system_state::{CallJob, NotYet};

@@ -5,7 +5,6 @@ mod making;
 mod room;
 mod turn;
 
-pub use flushes::{Flushed, System, flush_once};
 pub use making::{Made, make_room};
 pub use room::{Given, Move, try_room};
 pub use turn::turn_room;

@@ -13,10 +13,9 @@ ghost use Rattle.page_steps.specs.Room.{MayMove, Gave, IsSent, move_event, given
 use core_state::Actor;
 use dispatcher::Side;
 use flash_die::Die;
+use lambda_system::System;
 use page_base::Page;
-use system_dies::try_flush_out;
-use system_pages::{try_demote, try_evict};
-use system_state::{CallJob, Errand, State};
+use system_state::{CallJob, Errand};
 
 /// How a copy gave way.
 #[derive(Clone, Copy, Debug, PartialEq, Eq)]
@@ -39,76 +38,76 @@ pub enum Given<D> {
 }
 
 /// A copy of a side goes.
-fn evict<D: Die, J: CallJob>(state: &mut State<D, J>, actor: Actor, side: Side) -> Option<Move>
-    requires { MayMove D.seen J.suits state.old actor }
-    ensures next { move_event actor result ≡ evict_event (core_of D.seen state.old) actor side }
-    ensures gave { Gave D.seen J.suits state.old (move_event actor result) state.new }
+fn evict<D: Die, J: CallJob>(system: &mut System<D, J>, actor: Actor, side: Side) -> Option<Move>
+    requires { MayMove D.seen J.suits system.old.state actor }
+    ensures next { move_event actor result ≡ evict_event (core_of D.seen system.old.state) actor side }
+    ensures gave { Gave D.seen J.suits system.old.state (move_event actor result) system.new.state }
 {
-    match try_evict(state, actor, side) {
+    match system.try_evict(actor, side) {
         Ok(block) => Some(Move::Evicted { side, block }),
         Err(_) => None,
     }
 }
 
 /// A copy of the host goes to the drive.
-fn demote<D: Die, J: CallJob>(state: &mut State<D, J>, actor: Actor) -> Option<Move>
-    requires { MayMove D.seen J.suits state.old actor }
-    ensures next { move_event actor result ≡ demote_event (core_of D.seen state.old) actor }
-    ensures gave { Gave D.seen J.suits state.old (move_event actor result) state.new }
+fn demote<D: Die, J: CallJob>(system: &mut System<D, J>, actor: Actor) -> Option<Move>
+    requires { MayMove D.seen J.suits system.old.state actor }
+    ensures next { move_event actor result ≡ demote_event (core_of D.seen system.old.state) actor }
+    ensures gave { Gave D.seen J.suits system.old.state (move_event actor result) system.new.state }
 {
-    match try_demote(state, actor) {
+    match system.try_demote(actor) {
         Ok(block) => Some(Move::Demoted { block }),
         Err(_) => None,
     }
 }
 
 /// A copy of the host goes, or else one goes to the drive.
-fn move_host<D: Die, J: CallJob>(state: &mut State<D, J>, actor: Actor) -> Option<Move>
-    requires { MayMove D.seen J.suits state.old actor }
-    ensures next { move_event actor result ≡ or_else (evict_event (core_of D.seen state.old) actor AtHost) (demote_event (core_of D.seen state.old) actor) }
-    ensures gave { Gave D.seen J.suits state.old (move_event actor result) state.new }
+fn move_host<D: Die, J: CallJob>(system: &mut System<D, J>, actor: Actor) -> Option<Move>
+    requires { MayMove D.seen J.suits system.old.state actor }
+    ensures next { move_event actor result ≡ or_else (evict_event (core_of D.seen system.old.state) actor AtHost) (demote_event (core_of D.seen system.old.state) actor) }
+    ensures gave { Gave D.seen J.suits system.old.state (move_event actor result) system.new.state }
 {
-    let first = evict(state, actor, Side::Host);
+    let first = evict(system, actor, Side::Host);
     match first {
         Some(step) => Some(step),
-        None => demote(state, actor),
+        None => demote(system, actor),
     }
 }
 
 /// A copy of the host gives way, where room is wanted there.
-fn move_at<D: Die, J: CallJob>(state: &mut State<D, J>, actor: Actor, side: Side) -> Option<Move>
-    requires { MayMove D.seen J.suits state.old actor }
-    ensures next { move_event actor result ≡ by_side side (or_else (evict_event (core_of D.seen state.old) actor AtHost) (demote_event (core_of D.seen state.old) actor)) None }
-    ensures gave { Gave D.seen J.suits state.old (move_event actor result) state.new }
+fn move_at<D: Die, J: CallJob>(system: &mut System<D, J>, actor: Actor, side: Side) -> Option<Move>
+    requires { MayMove D.seen J.suits system.old.state actor }
+    ensures next { move_event actor result ≡ by_side side (or_else (evict_event (core_of D.seen system.old.state) actor AtHost) (demote_event (core_of D.seen system.old.state) actor)) None }
+    ensures gave { Gave D.seen J.suits system.old.state (move_event actor result) system.new.state }
 {
     match side {
-        Side::Host => move_host(state, actor),
+        Side::Host => move_host(system, actor),
         Side::Drive => None,
     }
 }
 
 /// The first copy that can gives way.
-fn try_move<D: Die, J: CallJob>(state: &mut State<D, J>, actor: Actor, side: Side) -> Option<Move>
-    requires { MayMove D.seen J.suits state.old actor }
-    ensures next { move_event actor result ≡ or_else (by_side side (or_else (evict_event (core_of D.seen state.old) actor AtHost) (demote_event (core_of D.seen state.old) actor)) None) (evict_event (core_of D.seen state.old) actor AtDrive) }
-    ensures gave { Gave D.seen J.suits state.old (move_event actor result) state.new }
+fn try_move<D: Die, J: CallJob>(system: &mut System<D, J>, actor: Actor, side: Side) -> Option<Move>
+    requires { MayMove D.seen J.suits system.old.state actor }
+    ensures next { move_event actor result ≡ or_else (by_side side (or_else (evict_event (core_of D.seen system.old.state) actor AtHost) (demote_event (core_of D.seen system.old.state) actor)) None) (evict_event (core_of D.seen system.old.state) actor AtDrive) }
+    ensures gave { Gave D.seen J.suits system.old.state (move_event actor result) system.new.state }
 {
-    let first = move_at(state, actor, side);
+    let first = move_at(system, actor, side);
     match first {
         Some(step) => Some(step),
-        None => evict(state, actor, Side::Drive),
+        None => evict(system, actor, Side::Drive),
     }
 }
 
 /// The die of the first unclean block whose die is at home goes out, with a copy of the block's page.
-fn send<D: Die, J: CallJob>(state: &mut State<D, J>, actor: Actor, into: &mut Page) -> Given<D>
-    requires may { MayMove D.seen J.suits state.old actor }
-    requires acts { FlushesFor (core_of D.seen state.old) actor }
-    ensures next { given_event actor result ≡ flush_event (core_of D.seen state.old) actor }
-    ensures gave { Gave D.seen J.suits state.old (given_event actor result) state.new }
-    ensures sent { (e : Errand D) → result ≡ Sent e → IsSent D.seen J.suits state.old actor into.new e state.new }
+fn send<D: Die, J: CallJob>(system: &mut System<D, J>, actor: Actor, into: &mut Page) -> Given<D>
+    requires may { MayMove D.seen J.suits system.old.state actor }
+    requires acts { FlushesFor (core_of D.seen system.old.state) actor }
+    ensures next { given_event actor result ≡ flush_event (core_of D.seen system.old.state) actor }
+    ensures gave { Gave D.seen J.suits system.old.state (given_event actor result) system.new.state }
+    ensures sent { (e : Errand D) → result ≡ Sent e → IsSent D.seen J.suits system.old.state actor into.new e system.new.state }
 {
-    match try_flush_out(state, actor, into) {
+    match system.try_flush_out(actor, into) {
         Ok(errand) => Given::Sent { errand },
         Err(_) => Given::Nothing,
     }
@@ -117,20 +116,20 @@ fn send<D: Die, J: CallJob>(state: &mut State<D, J>, actor: Actor, into: &mut Pa
 /// Makes the first possible event for room at a side: for the host a copy of it goes, or goes to the drive; then for either a copy of the
 /// drive goes, or a die goes out to flush a block. `Nothing`: none of them is possible.
 pub fn try_room<D: Die, J: CallJob>(
-    state: &mut State<D, J>,
+    system: &mut System<D, J>,
     actor: Actor,
     side: Side,
     into: &mut Page,
 ) -> Given<D>
-    requires may { MayMove D.seen J.suits state.old actor }
-    requires acts { FlushesFor (core_of D.seen state.old) actor }
-    ensures next { given_event actor result ≡ room_event (core_of D.seen state.old) actor side }
-    ensures gave { Gave D.seen J.suits state.old (given_event actor result) state.new }
-    ensures sent { (e : Errand D) → result ≡ Sent e → IsSent D.seen J.suits state.old actor into.new e state.new }
+    requires may { MayMove D.seen J.suits system.old.state actor }
+    requires acts { FlushesFor (core_of D.seen system.old.state) actor }
+    ensures next { given_event actor result ≡ room_event (core_of D.seen system.old.state) actor side }
+    ensures gave { Gave D.seen J.suits system.old.state (given_event actor result) system.new.state }
+    ensures sent { (e : Errand D) → result ≡ Sent e → IsSent D.seen J.suits system.old.state actor into.new e system.new.state }
 {
-    let first = try_move(state, actor, side);
+    let first = try_move(system, actor, side);
     match first {
         Some(step) => Given::Moved { step },
-        None => send(state, actor, into),
+        None => send(system, actor, into),
     }
 }

@@ -14,7 +14,7 @@ use crate::room::{Given, try_room};
 use core_state::Actor;
 use dispatcher::Side;
 use flash_die::Die;
-use flushes::System;
+use lambda_system::System;
 use page_base::Page;
 use system_state::CallJob;
 use turn_cell::{Desk, Worn};
@@ -37,7 +37,7 @@ pub fn turn_room<D: Die, J: CallJob, K: Desk<System<D, J>>>(
     ensures out { (e : Errand D) → result ≡ Ok (Sent e) → IsFresh D.seen e × ((version : ℕ) × IsInHand D.seen (K.opening desk.old) (K.view desk.new).seen actor (ToFlush e.subject version into.new) ((K.opening desk.old).value.sizes.meta + e.subject) e) }
 {
     let mut system = desk.take()?;
-    let given = try_room(&mut system.state, actor, side, into);
+    let given = try_room(&mut system, actor, side, into);
     desk.give(system);
     Ok(given)
 }

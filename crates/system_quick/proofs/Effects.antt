@@ -68,7 +68,7 @@ module _ {D J : Type 0} (seen : D → DieView) (suits : J → JobView → Type 0
   follows_own call = follows_is c (file_for c.names.files call) (plain c) (own_len call) h ∙ (let n = own_names seen s h in λ i. record c { names = n i })
 
   -- nothing changes
-  pub same_outcome : (call : Call) (reply : Reply) → is_quick call ≡ true → reply ≡ (answer (plain c) call).reply → IsClear c call reply → (answer (plain c) call).state ≡ plain c → IsOutcome seen suits s call reply s
+  same_outcome : (call : Call) (reply : Reply) → is_quick call ≡ true → reply ≡ (answer (plain c) call).reply → IsClear c call reply → (answer (plain c) call).state ≡ plain c → IsOutcome seen suits s call reply s
   same_outcome call reply kind is clear stays = record {
     rest = refl;
     kind = kind;
@@ -84,7 +84,7 @@ module _ {D J : Type 0} (seen : D → DieView) (suits : J → JobView → Type 0
   }
 
   -- files and functions alone change
-  pub names_outcome : (u : State D J) → u ≡ record s { meta = record s.meta { names = u.meta.names }; functions = u.functions } → (call : Call) (reply : Reply) → is_quick call ≡ true → reply ≡ (answer (plain c) call).reply → IsClear c call reply →
+  names_outcome : (u : State D J) → u ≡ record s { meta = record s.meta { names = u.meta.names }; functions = u.functions } → (call : Call) (reply : Reply) → is_quick call ≡ true → reply ≡ (answer (plain c) call).reply → IsClear c call reply →
       follows c (file_for c.names.files call) (answer (plain c) call).state ≡ record c { names = names_of u.meta.names u.functions.items } →
       ((l : ℕ) (x : Flight) → c.calls l ≡ Some x → lock_of u.meta.names.files (Some x) ≡ lock_of rows (Some x)) → AreFunctions u.functions.items → 64 ≤ vec_capacity u.functions → IsOutcome seen suits s call reply u
   names_outcome u rest call reply kind is clear leads locks functions room = record {

@@ -1,5 +1,5 @@
 -- A file goes, with its blocks: no call in flight meets it.
-use Rattle.std.proofs.Common.{◌≡◌, ℕ, ◌+◌, ◌-◌, ◌^◌, ◌<◌, ◌≤◌, Bool, true, false, List, [], ◌∷◌, ◌++◌, length, take, Option, Some, None, refl, sym, ap, ◌∙◌, subst, inl, ⊎_elim, arith}
+use Rattle.std.proofs.Common.{append-nil, ◌≡◌, ℕ, ◌+◌, ◌-◌, ◌^◌, ◌<◌, ◌≤◌, Bool, true, false, List, [], ◌++◌, length, take, Option, Some, None, refl, sym, ap, ◌∙◌, subst, inl, ⊎_elim, arith}
 use Rattle.std.specs.Prelude.{◌≢◌, ◌==◌, ◌&&◌, nat_lt, is_some, option_map, if◌then◌else◌}
 use Rattle.std.specs.List.{Contains, slice_get}
 use Rattle.std.proofs.lemmas.Bool.Decides.{nat_tests}
@@ -38,7 +38,7 @@ use Rattle.system_state.specs.Cores.{core_of, flash_of, blocks_of, names_of, pla
 use Rattle.system_state.specs.Kept.{slot_of, AreCaches, IsKept}
 use Rattle.system_state.specs.declared.state.State.{State}
 use Rattle.system_state.proofs.Flash.{agrees_self}
-use Rattle.call_checks.proofs.Found.{found_again, row_seen}
+use Rattle.call_checks.proofs.Found.{row_seen}
 use Rattle.system_blocks.specs.Sweeps.{sweep}
 use Rattle.system_blocks.specs.Spans.{let_go, CanLetGo, unmarked, IsMarked, resized, gone_at, fresh_at, renewed_by, AlongBoth}
 use Rattle.system_blocks.proofs.Bulk.{Inside, cells_out, let_goes}
@@ -56,10 +56,6 @@ use Rattle.system_quick.proofs.Outcome.{IsOutcome}
 
 take_none : (xs : List ℕ) (n : ℕ) → take (0 - n) xs ≡ []
 take_none xs n = let e : 0 - n ≡ 0 = omega arith in ap (λ (m : ℕ). take m xs) e
-
-append_none : (xs : List ℕ) → xs ++ [] ≡ xs
-append_none [] = refl
-append_none (x ∷ xs) = ap (λ ys. x ∷ ys) (append_none xs)
 
 held_not : (t : Bool) (n id : ℕ) → t ≡ true → (t && (n == id)) ≡ false → n ≢ id
 held_not t n id e f g = grind (arith, nat_tests)
@@ -153,9 +149,6 @@ module _ {D J : Type 0} (seen : D → DieView) (suits : J → JobView → Type 0
 
   -- ---- what the code asks
 
-  pub row_is : name_table.file_of r.id s.meta.names.files ≡ Some r
-  row_is = (found_again 1 s.meta.names.files name r table.rise found).found
-
   abbrev mid : Paired
   mid = sweep (from - 0) (gone_at ext r.id 0) let_go s.pair
 
@@ -243,7 +236,7 @@ module _ {D J : Type 0} (seen : D → DieView) (suits : J → JobView → Type 0
         is = later (plain c) (Remove name) e
 
         blocks_are : blocks_of s.sizes pair2 (flash_of seen s) s.told.value.lent ≡ renewed_in gone c.blocks
-        blocks_are = moved.blocks (flash_of seen s) s.told.value.lent ∙ ap (λ (bs : List ℕ). renewed_in bs c.blocks) (ap (λ (w : List ℕ). gone ++ w) fresh_none ∙ append_none gone)
+        blocks_are = moved.blocks (flash_of seen s) s.told.value.lent ∙ ap (λ (bs : List ℕ). renewed_in bs c.blocks) (ap (λ (w : List ℕ). gone ++ w) fresh_none ∙ append-nil gone)
 
         leads : record c {
           blocks = blocks_of s.sizes pair2 (flash_of seen s) s.told.value.lent;

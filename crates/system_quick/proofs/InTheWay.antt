@@ -1,5 +1,5 @@
 -- Who is in the way: by rows of calls, and by the core's claims.
-use Rattle.std.proofs.Common.{◌≡◌, ℕ, zero, suc, ◌+◌, ◌<◌, ◌≤◌, Bool, true, false, List, [], ◌∷◌, length, get_or, Option, Some, None, refl, sym, ap, ◌∙◌, ⊎_elim, arith}
+use Rattle.std.proofs.Common.{◌≡◌, ℕ, suc, ◌+◌, ◌<◌, ◌≤◌, Bool, true, false, List, [], length, get_or, Option, Some, None, refl, sym, ap, ◌∙◌, ⊎_elim, arith}
 use Rattle.std.specs.Prelude.{◌==◌, ◌&&◌, option_map, if◌then◌else◌}
 use Rattle.std.proofs.lemmas.Bool.Decides.{nat_tests}
 use mathlib.Core.Path.{fun_ext}
@@ -10,7 +10,7 @@ use Rattle.plain_files.specs.declared.calls.Call.{Call as PlainCall}
 use Rattle.plain_files.specs.declared.calls.Call.TheVariants.{Remove, Seal, Unload, Sync}
 use Rattle.core_state.specs.Words.{or_else, first_to}
 use Rattle.core_state.specs.State.{Page, File, Claim, Flight, Core}
-use Rattle.core_state.specs.Reach.{is_data, is_sync, file_word, file_by, id_or_none, word_is}
+use Rattle.core_state.specs.Reach.{is_data, is_sync, file_word, file_by, id_or_none}
 use Rattle.core_state.specs.InFlight.{claim_of, claims}
 use Rattle.core_state.specs.LaneEvents.{is_unsealed, IsUnheld, IsUnused}
 use Rattle.core_state.specs.Coherent.{Coherent}
@@ -23,7 +23,7 @@ use Rattle.system_state.specs.declared.state.State.{State}
 use Rattle.call_checks.proofs.Found.{found_again, row_seen}
 use Rattle.system_begin.proofs.Clashes.{none_first}
 use Rattle.system_quick.specs.Tables.{unsealed_row}
-use Rattle.system_quick.specs.Rows.{row_holds, row_uses}
+use Rattle.system_quick.specs.Rows.{row_holds}
 use Rattle.system_quick.specs.Waits.{holds, uses, least_holder, least_user, conflict_on, use_of, in_the_way}
 
 -- ---- a walk along the lanes
@@ -37,12 +37,6 @@ unfolding first_to
 first-more test n o p e f =
     let k : n + 1 ≡ suc n = omega arith in
     f ∙ (ap (λ (w : Option ℕ). or_else w (if test n then Some n else None)) e ∙ sym (ap (λ (m : ℕ). first_to m test) k))
-
--- an element that is there doesn't depend on what stands for one that isn't
-pub same_default : {A : Type 0} (xs : List A) (i : ℕ) (x y : A) → i < length xs → get_or xs i x ≡ get_or xs i y
-same_default [] i x y l = absurd (omega arith)
-same_default (z ∷ xs) zero x y l = refl
-same_default (z ∷ xs) (suc i) x y l = same_default xs i x y (omega arith)
 
 -- of any other call nobody is
 pub nobody : (c : Core) (call : PlainCall) → ((name : List ℕ) → call ≡ Remove name → ⊥) → ((name : List ℕ) → call ≡ Seal name → ⊥) → ((name : List ℕ) → call ≡ Unload name → ⊥) → None ≡ in_the_way c call
@@ -85,19 +79,8 @@ module _ {D J : Type 0} (seen : D → DieView) (suits : J → JobView → Type 0
           off (is_data a.request.call) (a.file == id) (apart a.file z))
           right.kind
 
-  -- and uses a function, where its claim does
-  uses_same : (name : List ℕ) (l : ℕ) → row_uses name (get_or s.calls.items l None) ≡ uses name (claims c.calls l)
-  uses_same name l = by (get_or s.calls.items l None) refl
-    where
-      by : (o : Option Call) → get_or s.calls.items l None ≡ o → row_uses name o ≡ uses name (claim_of (flight_of o (get_or s.told.value.gathered l [])))
-      by None e = refl
-      by (Some row) e = ap (λ (w : Option (List ℕ)). word_is w name) (k.calls.function l row e)
-
-  pub holder_is : (id : ℕ) → 1 ≤ id → first_to (length s.calls.items) (λ l. row_holds id (get_or s.calls.items l None)) ≡ least_holder c id
+  holder_is : (id : ℕ) → 1 ≤ id → first_to (length s.calls.items) (λ l. row_holds id (get_or s.calls.items l None)) ≡ least_holder c id
   holder_is id low = ap (λ (n : ℕ). first_to n (λ l. row_holds id (get_or s.calls.items l None))) k.calls.count ∙ ap (first_to s.sizes.lanes) (fun_ext (λ l. holds_same id low l))
-
-  pub user_is : (name : List ℕ) → first_to (length s.calls.items) (λ l. row_uses name (get_or s.calls.items l None)) ≡ least_user c name
-  user_is name = ap (λ (n : ℕ). first_to n (λ l. row_uses name (get_or s.calls.items l None))) k.calls.count ∙ ap (first_to s.sizes.lanes) (fun_ext (λ l. uses_same name l))
 
   -- ---- the conflict on a file
 

@@ -1,6 +1,6 @@
 -- Lists of which one element changes, comes or goes: after a map, at a place, and in the table of files.
 use Rattle.std.proofs.Common.{◌≡◌, ℕ, zero, suc, ◌+◌, ◌≤◌, Bool, true, false, cond, List, [], ◌∷◌, ◌++◌, length, Option, Some, None, refl, sym, ap, ◌∙◌, arith}
-use Rattle.std.specs.Prelude.{◌≢◌, ◌==◌, not, map, bytes_eq, if◌then◌else◌, IsTrue}
+use Rattle.std.specs.Prelude.{◌≢◌, ◌==◌, not, map, bytes_eq, if◌then◌else◌}
 use Rattle.std.specs.List.{position, position_or_len, remove}
 use Rattle.std.proofs.lemmas.Bool.Decides.{nat_tests}
 use Rattle.name_table.specs.declared.files.FileRec.{FileRec}
@@ -138,12 +138,3 @@ without_named n name (x ∷ xs) r k e = go (bytes_eq x.name name) e (without_nam
     go : (t : Bool) → (if t then Some x else file_named name xs) ≡ Some r → (file_named name xs ≡ Some r → name_table.without r.id xs ≡ without (named name) xs) → (if x.id == r.id then xs else x ∷ name_table.without r.id xs) ≡ (if t then xs else x ∷ without (named name) xs)
     go true f ih = ap (λ (u : Bool). if u then xs else x ∷ name_table.without r.id xs) (own (same_some (Some x) x r refl f))
     go false f ih = ap (λ (u : Bool). if u then xs else x ∷ name_table.without r.id xs) (other (found_again (x.id + 1) xs name r k.1 f).low) ∙ ap (λ (ys : List FileRec). x ∷ ys) (ih f)
-
--- ---- tests
-
-pub not_true : (t : Bool) → (IsTrue t → ⊥) → t ≡ false
-not_true true h = absurd (h refl)
-not_true false h = refl
-
-pub is_true : (t : Bool) → IsTrue t → t ≡ true
-is_true t h = h

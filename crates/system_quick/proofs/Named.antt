@@ -58,10 +58,10 @@ module _ {D J : Type 0} (seen : D → DieView) (s : State D J) (h : Coherent (co
       go (Some r) q = (r, q)
 
   -- the plain file of a name
-  pub plain_there : (name : List ℕ) (r : FileRec) → file_named name rows ≡ Some r → file_of name (plain c).files ≡ Some (plain_row c.places (contents c.blocks) r)
+  plain_there : (name : List ℕ) (r : FileRec) → file_named name rows ≡ Some r → file_of name (plain c).files ≡ Some (plain_row c.places (contents c.blocks) r)
   plain_there name r e = plain_seen c.places (contents c.blocks) name rows ∙ ap (option_map (plain_row c.places (contents c.blocks))) e
 
-  pub plain_none : (name : List ℕ) → is_some (file_of name (plain c).files) ≡ is_some (file_named name rows)
+  plain_none : (name : List ℕ) → is_some (file_of name (plain c).files) ≡ is_some (file_named name rows)
   plain_none name = ap is_some (plain_seen c.places (contents c.blocks) name rows) ∙ is_some_map (plain_row c.places (contents c.blocks)) (file_named name rows)
 
   -- ---- calls that ask

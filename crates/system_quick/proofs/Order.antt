@@ -28,9 +28,6 @@ pub awaits_none : (rows rows2 : List Lane) (awaits : Option (ℕ × ℕ)) (o : O
 awaits_none rows rows2 awaits o e f = sym (e ∙ ap (λ (w : List Lane). awaited_still (lanes_of w) awaits) f)
 
 module _ (c : Core) (request : Request) where
-  pub awaited_first : (y : NotYet) → awaited_still c.lanes request.awaits ≡ Some y → quick_waits c request ≡ Some y
-  awaited_first y e = ap (λ (o : Option NotYet). waits_by o (early (plain c) request.call) (in_the_way c request.call)) e
-
   pub refused_waits : (reply : Reply) → awaited_still c.lanes request.awaits ≡ None → early (plain c) request.call ≡ Some reply → quick_waits c request ≡ None
   refused_waits reply e f = λ i. waits_by (e i) (f i) (in_the_way c request.call)
 

@@ -4,7 +4,8 @@ ghost use Rattle.core_state.specs.Opening.{Image, opening_core};
 ghost use Rattle.system_state.specs.Cores.{core_of};
 ghost use Rattle.system_state.specs.Stands.{IsStanding};
 
-use crate::{Options, empty_drives_may_start, into_dies, start};
+use crate::laws::empty_drives_may_start;
+use crate::{Options, into_dies, start};
 use dispatcher::Place;
 use edge_io::Listed;
 use flash_die::{Die, DieMem, Plan};

@@ -8,7 +8,7 @@ use Rattle.std.proofs.lemmas.List.{append-nil, take_all, get_or_push, get_or_app
 use Rattle.std.proofs.lemmas.List.Sums.{fold_more}
 use Rattle.std.specs.Prelude.{IsSome, All, take, drop, sum}
 use Rattle.turn_clients.specs.Crew.{IsReady, IsDone}
-use Rattle.std.specs.declared.option.Option.TheVariants.{Some}
+use Rattle.std.specs.declared.option.Option.TheVariants.{None, Some}
 use Rattle.turn_cell.proofs.Plain.{un_some}
 use Rattle.turn_cell.specs.declared.pass.Pass.{Pass}
 use Rattle.turn_cell.specs.declared.turn.Turn.{Turn}
@@ -20,6 +20,7 @@ use Rattle.turn_cell.specs.Events.{events_of}
 use Rattle.turn_cell.specs.History.{entry}
 use Rattle.turn_cell.specs.Teams.{without, left_of, right_of, joined_of, joined_to}
 use Rattle.turn_clients.specs.Counting.{adding, start_of, sum_of}
+use Rattle.turn_clients.specs.Ends.{IsSpent}
 use Rattle.turn_clients.specs.Shares.{Each, IsNew, IsServed, IsFreeJob, IsSharing, IsGathering, all_in, actors_of, amount_sum, joined_sum}
 use Rattle.turn_clients.specs.declared.counter.Add.{Add}
 use Rattle.turn_clients.specs.declared.counter.Start.{Start}
@@ -69,8 +70,9 @@ shared_on turn js j root root' g all t h actor =
         ap (λ (v : V). v.joined) e ∙ g.4,
         ap (λ (v : V). v.passes) e ∙ omega arith,
         ap (λ (v : V). v.split) e ∙ ((λ i. g.6 i ++ (count ∙ sym actor) i ∷ []) ∙ sym (actors_push js j)),
+        ap (λ (v : V). v.first) e ∙ g.7,
       ),
-      each_push (IsNew turn) js j all (h.0, h.1, ap (λ (v : V). v.alone) h.2 ∙ g.2, ap (λ (v : V). v.number) h.2 ∙ count, ap (λ (v : V). v.own) h.2, actor),
+      each_push (IsNew turn) js j all (h.0, h.1, ap (λ (v : V). v.alone) h.2 ∙ g.2, ap (λ (v : V). v.number) h.2 ∙ count, ap (λ (v : V). v.own) h.2, actor, ap (λ (v : V). v.first) h.2 ∙ g.7),
     )
 
 -- the last job's pass is joined
@@ -97,6 +99,19 @@ joined_last turn js j root root' q g all is done t e =
       omega arith,
     )
 
+-- where the last job tells no total, its pass found the turn worn
+pub worn_last : (turn : Turn Counter Start Add) (js : List Job) (j : Job) (q : Pass Counter Start Add) → Each (IsServed turn) (js ++ j ∷ []) → j.pass ≡ Some q → j.total ≡ None → IsPassOf start_of turn q × IsSpent q
+unfolding IsServed
+worn_last turn js j q all is none =
+    let s = each_last (IsServed turn) js j all in
+    let same : s.0 ≡ q = un_some (sym s.1.0 ∙ is) in
+    subst (λ (p : Pass Counter Start Add). IsPassOf start_of turn p × IsSpent p) same (s.1.1, (s.4, s.5 none))
+
+-- the pass of the last job
+pub pass_last : (turn : Turn Counter Start Add) (js : List Job) (j : Job) → Each (IsServed turn) (js ++ j ∷ []) → j.pass ≡ None → ⊥
+unfolding IsServed
+pass_last turn js j all none = let s = each_last (IsServed turn) js j all in let is = s.1.0 in cc
+
 -- a new job is ready
 pub ready_all : (turn : Turn Counter Start Add) (js : List Job) → Each (IsNew turn) js → All (λ j. IsReady turn j) js
 unfolding IsNew IsReady
@@ -109,7 +124,7 @@ served_one turn k j j' n d =
     let actor : j'.actor ≡ k + 1 = d.4 ∙ n.5 in
     let number : (view d.0).number ≡ j'.actor = ap (λ (p : Pass Counter Start Add). (view p).number) same ∙ (n.3 ∙ sym actor) in
     let bare : (view d.0).own ≡ [] = ap (λ (p : Pass Counter Start Add). (view p).own) same ∙ n.4 in
-    (d.1, (d.3, d.6.0, d.6.1), actor, λ some. let a = d.7 some in (ap (λ (v : V). v.number) a.2 ∙ number, a.1 ∙ (λ i. bare i ++ entry (number i) (adding (sym d.4 i) (sym d.5 i)) ∷ [])))
+    (d.1, (d.3, d.6.0, d.6.1), actor, λ some. let a = d.7 some in (ap (λ (v : V). v.number) a.2 ∙ number, a.1 ∙ (λ i. bare i ++ entry (number i) (adding (sym d.4 i) (sym d.5 i)) ∷ [])), d.8 ∙ ap (λ (p : Pass Counter Start Add). (view p).first) same ∙ n.6, d.9)
 
 pub served_all : (turn : Turn Counter Start Add) (js ks : List Job) → length ks ≡ length js → Each (IsNew turn) js → ((i : ℕ) (d : Job) → i < length js → IsDone turn (slice_index_or js i d) (slice_index_or ks i d)) → Each (IsServed turn) ks
 served_all turn js ks long all done k d l = let l' : k < length js = subst (λ z. k < z) long l in served_one turn k (slice_index_or js k d) (slice_index_or ks k d) (all k d l') (done k d l')

@@ -1,10 +1,11 @@
 -- Work that is shared out to passes and gathered again.
-use Rattle.std.specs.Prelude.{◌≡◌, ◌<◌, ℕ, ◌+◌, false, List, [], ◌∷◌, map, length, slice_index_or, IsSome}
-use Rattle.std.specs.declared.option.Option.TheVariants.{Some}
+use Rattle.std.specs.Prelude.{◌≡◌, ◌<◌, ℕ, ◌+◌, ◌^◌, false, List, [], ◌∷◌, map, length, slice_index_or, IsSome}
+use Rattle.std.specs.declared.option.Option.TheVariants.{None, Some}
 use Rattle.turn_cell.specs.declared.pass.Pass.{Pass}
 use Rattle.turn_cell.specs.declared.turn.Turn.{Turn}
 use Rattle.turn_cell.specs.declared.view.Joined.{Joined}
 use Rattle.turn_cell.specs.History.{entry}
+use Rattle.turn_cell.specs.Steps.{count_of}
 use Rattle.turn_cell.specs.Events.{events_of}
 use Rattle.turn_cell.specs.Passes.{view, IsPassOf, IsFree}
 use Rattle.turn_clients.specs.Counting.{adding, start_of, sum_of}
@@ -35,15 +36,15 @@ IsFreeJob turn j p = (j.pass ≡ Some p) × IsPassOf start_of turn p × IsFree p
 
 -- the job of a place, whose pass has made nothing
 unfoldable pub IsNew : Turn Counter Start Add → ℕ → Job → Type 0
-IsNew turn k j = (p : Pass Counter Start Add) × IsFreeJob turn j p × ((view p).alone ≡ false) × ((view p).number ≡ k + 1) × ((view p).own ≡ []) × (j.actor ≡ k + 1)
+IsNew turn k j = (p : Pass Counter Start Add) × IsFreeJob turn j p × ((view p).alone ≡ false) × ((view p).number ≡ k + 1) × ((view p).own ≡ []) × (j.actor ≡ k + 1) × ((view p).first ≡ 0)
 
--- the job of a place, whose pass has made its one addition, unless the turn was worn
+-- the job of a place, whose pass has made its one addition, or has seen all the events that a turn counts
 unfoldable pub IsServed : Turn Counter Start Add → ℕ → Job → Type 0
-IsServed turn k j = (p : Pass Counter Start Add) × IsFreeJob turn j p × (j.actor ≡ k + 1) × (IsSome j.total → ((view p).number ≡ j.actor) × ((view p).own ≡ entry j.actor (adding j.actor j.amount) ∷ []))
+IsServed turn k j = (p : Pass Counter Start Add) × IsFreeJob turn j p × (j.actor ≡ k + 1) × (IsSome j.total → ((view p).number ≡ j.actor) × ((view p).own ≡ entry j.actor (adding j.actor j.amount) ∷ [])) × ((view p).first ≡ 0) × (j.total ≡ None → count_of (view p) ≡ 2 ^ 62)
 
 -- the first pass while passes are split from it, for these jobs so far
 abbrev pub IsSharing : Turn Counter Start Add → List Job → Pass Counter Start Add → Type 0
-IsSharing turn js p = (IsPassOf start_of turn p × IsFree p) × ((view p).number ≡ 0) × ((view p).alone ≡ false) × ((view p).own ≡ []) × ((view p).joined ≡ []) × ((view p).passes ≡ length js + 1) × ((view p).split ≡ actors_of js)
+IsSharing turn js p = (IsPassOf start_of turn p × IsFree p) × ((view p).number ≡ 0) × ((view p).alone ≡ false) × ((view p).own ≡ []) × ((view p).joined ≡ []) × ((view p).passes ≡ length js + 1) × ((view p).split ≡ actors_of js) × ((view p).first ≡ 0)
 
 -- the first pass while those of these jobs are still to be joined
 abbrev pub IsGathering : Turn Counter Start Add → List Job → Pass Counter Start Add → Type 0

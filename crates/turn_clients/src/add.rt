@@ -17,6 +17,7 @@ pub fn add_once<K: Desk<Counter>>(desk: &mut K, actor: u64, amount: u64) -> Resu
     requires may { MayMake ActsAs (K.view desk.old).alone (K.opening desk.old) (K.view desk.old).number (adding actor amount) }
     ensures free { K.is_free desk.new }
     ensures turn { (K.table desk.new ≡ K.table desk.old) × (K.opening desk.new ≡ K.opening desk.old) }
+    ensures first { (K.view desk.new).first ≡ (K.view desk.old).first }
     ensures made { IfOk result (λ _. AddsOne (K.view desk.old) (K.view desk.new) (adding actor amount)) }
     ensures worn { IfErr result (λ w. IsWorn w.count (K.view desk.new)) }
     ensures total { IfOk result (λ t. t ≡ total_at (K.opening desk.old) (K.view desk.new).seen) }
@@ -39,6 +40,7 @@ pub fn add_seated<R: Wait>(
     requires pass { IsPassOf start_of turn.now pass × IsFree pass × ((view pass).alone ≡ false) }
     requires may { (view pass).number ≡ actor }
     ensures pass { IsPassOf start_of turn.entry.now result.0 × IsFree result.0 }
+    ensures first { (view result.0).first ≡ (view pass).first }
     ensures made { IfOk result.1 (λ _. AddsOne (view pass) (view result.0) (adding actor amount)) }
     ensures worn { IfErr result.1 (λ w. IsWorn w.count (view result.0)) }
     ensures total { IfOk result.1 (λ t. t ≡ total_at (opening_of start_of turn.entry.now) (view result.0).seen) }

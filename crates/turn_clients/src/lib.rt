@@ -4,6 +4,7 @@
 mod add;
 mod counter;
 mod crew;
+mod ends;
 mod job;
 mod pair;
 mod raise;
@@ -14,7 +15,8 @@ mod tests;
 pub use add::{add_once, add_seated};
 pub use counter::{Add, Counter, Start, empty};
 pub use crew::{run_all, run_job};
+pub use ends::GiveUp;
 pub use job::Job;
 pub use pair::two;
 pub use raise::{raise_alone, raise_once, raise_seated};
-pub use share::{ShareErr, add_all, join_all, seat_all};
+pub use share::{add_all, join_all, seat_all};

@@ -7,23 +7,17 @@ ghost use Rattle.turn_clients.specs.declared.counter.Add.{Add};
 ghost use Rattle.turn_clients.specs.declared.counter.Start.{Start};
 ghost use Rattle.turn_clients.specs.declared.counter.Counter.{Counter};
 ghost use Rattle.turn_cell.specs.declared.pass.Pass.{Pass};
+ghost use Rattle.turn_clients.specs.Ends.{IsWornAt, HadTo};
 ghost use Rattle.turn_clients.specs.Shares.{Each, IsNew, IsServed, IsSharing, IsGathering, IsFreeJob, all_in, amount_sum};
 
 use crate::counter::Counter;
 use crate::crew::run_all;
+use crate::ends::GiveUp;
 use crate::job::Job;
 use std::alloc::{AllocError, Global};
 use std::sync::Wait;
 use std::thread::Threads;
 use turn_cell::{Closed, Pass, Turn};
-
-/// Why not everything was added.
-#[derive(Drop)]
-pub enum ShareErr {
-    NoMemory,
-    /// A take found the turn worn.
-    Worn,
-}
 
 /// A job with the next pass.
 fn seat(turn: &Turn<Counter>, root: &mut Pass<Counter>, actor: u64, amount: u64) -> Job
@@ -62,19 +56,19 @@ pub fn seat_all(
     Ok(jobs)
 }
 
-/// Joins the pass of the last job that is left.
+/// Joins the pass of the last job that is left. It gives up only where that job's pass found the turn worn.
 #[tactic(auto, unfolding(crate::specs::Shares::IsServed))]
 fn join_last(
     turn: &Turn<Counter>,
     root: &mut Pass<Counter>,
     jobs: &mut Vec<Job>,
-) -> Result<(), ShareErr>
+) -> Result<(), GiveUp>
     requires root { IsGathering turn.now jobs.old.items root.old }
     requires served { Each (IsServed turn.now) jobs.old.items }
     requires some { 0 < length jobs.old.items }
     ensures root { IfOk result (λ _. IsGathering turn.now jobs.new.items root.new) }
     ensures served { IfOk result (λ _. Each (IsServed turn.now) jobs.new.items) }
-    ensures worn { IfErr result (λ e. e ≡ ShareErr.Worn) }
+    ensures worn { IfErr result (IsWornAt turn.now) }
     ensures fewer { length jobs.new.items + 1 ≡ length jobs.old.items }
     ensures sum { IfOk result (λ _. all_in jobs.new.items root.new ≡ all_in jobs.old.items root.old) }
 {
@@ -82,22 +76,24 @@ fn join_last(
         unreachable!()
     };
     let Job { pass, total, .. } = job;
-    let (Some(pass), Some(_)) = (pass, total) else {
-        return Err(ShareErr::Worn);
-    };
+    let Some(pass) = pass else { unreachable!() };
+    if total.is_none() {
+        return Err(GiveUp::Worn(pass));
+    }
     turn.join(root, pass);
     Ok(())
 }
 
-/// Joins the passes of all jobs, the last first.
+/// Joins the passes of all jobs, the last first. It gives up only where the pass of a job found the turn worn, and hands
+/// that pass out.
 pub fn join_all(
     turn: &Turn<Counter>,
     root: &mut Pass<Counter>,
     jobs: &mut Vec<Job>,
-) -> Result<(), ShareErr>
+) -> Result<(), GiveUp>
     requires root { IsGathering turn.now jobs.old.items root.old }
     requires served { Each (IsServed turn.now) jobs.old.items }
-    ensures worn { IfErr result (λ e. e ≡ ShareErr.Worn) }
+    ensures worn { IfErr result (IsWornAt turn.now) }
     ensures root { IfOk result (λ _. IsGathering turn.now [] root.new) }
     ensures sum { IfOk result (λ _. all_in [] root.new ≡ all_in jobs.old.items root.old) }
 {
@@ -107,22 +103,24 @@ pub fn join_all(
     Ok(())
 }
 
-/// Adds all amounts, each by a thread with a pass of its own. In the end there is one history, whose sum they are.
+/// Adds all amounts, each by a thread with a pass of its own. In the end there is one history, whose sum they are. It
+/// gives up only where memory ran out, or where a pass found the turn worn, which is handed out then.
 pub fn add_all<R: Threads + Wait + Sync>(
     rt: &R,
     alloc: Global,
     counter: Counter,
     amounts: &[u64],
-) -> Result<Closed<Counter>, ShareErr>
+) -> Result<Closed<Counter>, GiveUp>
     requires { Stands counter (start_of counter) [] }
+    ensures gave_up { IfErr result (HadTo (start_of counter)) }
     ensures whole { IfOk result (λ c. IsWhole (view c.front.pass.value)) }
     ensures total { IfOk result (λ c. c.book.total ≡ (counter.total + sum amounts.now) % 2 ^ 64) }
 {
     let Ok((turn, mut root)) = Turn::new(alloc, counter, 0) else {
-        return Err(ShareErr::NoMemory);
+        return Err(GiveUp::NoMemory);
     };
     let Ok(mut jobs) = seat_all(alloc, &turn, &mut root, amounts) else {
-        return Err(ShareErr::NoMemory);
+        return Err(GiveUp::NoMemory);
     };
     run_all(rt, &turn, &mut jobs);
     join_all(&turn, &mut root, &mut jobs)?;

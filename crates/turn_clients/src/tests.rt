@@ -8,7 +8,7 @@ use turn_cell::{Alone, Closed, NewErr, Seated, Turn};
 
 #[test]
 fn two_threads_add_up(rt: HostRuntime) -> Result<(), Fail> {
-    let Some(closed) = two(&rt, rt.alloc(), empty(5), 10, 20) else {
+    let Ok(closed) = two(&rt, rt.alloc(), empty(5), 10, 20) else {
         panic!(rt; "worn or no memory")
     };
     let Closed { book, .. } = closed;

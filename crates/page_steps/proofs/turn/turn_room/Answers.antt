@@ -32,7 +32,7 @@ give-requires-clause-stands g c =
     let v = g.K.Desk.view c.args.desk.now in
     let u = g.K.Desk.view c.take.new.self in
     let r = c.try_room-given.result in
-    gives_at (core_of g.D.Die.seen) (Stands g.D.Die.seen g.J.CallJob.suits) (λ s o h k. k.run) (λ s o h k. k.coherent) c.try_room-given.new.state p (g.K.Desk.opening c.args.desk.now) v u c.args.actor (few (given_event c.args.actor r)) a.turn.1
+    gives_at (core_of g.D.Die.seen) (Stands g.D.Die.seen g.J.CallJob.suits) (λ s o h k. k.run) (λ s o h k. k.coherent) c.try_room-given.new.system.state p (g.K.Desk.opening c.args.desk.now) v u c.args.actor (few (given_event c.args.actor r)) a.turn.1
     (are_few (given_event c.args.actor r)) (of_given c.args.actor r) c.requires.acts a.seen (c.try_room-given.ensures.gave.makes p.value u.seen u.number a.ok.1)
 
 pub returns-clause-did : goal.returns-clause-did
@@ -42,7 +42,7 @@ returns-clause-did g c =
     let v = g.K.Desk.view c.args.desk.now in
     let u = g.K.Desk.view c.take.new.self in
     let r = c.try_room-given.result in
-    turned_at (core_of g.D.Die.seen) (Stands g.D.Die.seen g.J.CallJob.suits) (λ s o h k. k.run) (λ s o h k. k.coherent) c.in_ok-system.system.state c.try_room-given.new.state p (g.K.Desk.opening c.args.desk.now) v u (g.K.Desk.view c.give.new.self) (few (given_event c.args.actor r)) (RoomTurn c.args.actor c.args.side c.try_room-given.new.into r) a.turn.1 a.ok.1
+    turned_at (core_of g.D.Die.seen) (Stands g.D.Die.seen g.J.CallJob.suits) (λ s o h k. k.run) (λ s o h k. k.coherent) c.in_ok-system.system.state c.try_room-given.new.system.state p (g.K.Desk.opening c.args.desk.now) v u (g.K.Desk.view c.give.new.self) (few (given_event c.args.actor r)) (RoomTurn c.args.actor c.args.side c.try_room-given.new.into r) a.turn.1 a.ok.1
     (are_few (given_event c.args.actor r)) (c.try_room-given.ensures.gave.makes p.value u.seen u.number a.ok.1) a.seen a.between a.alone c.give.ensures.seen
     (record { are = refl; next = sym c.try_room-given.ensures.next; first = λ e is. let s = c.try_room-given.ensures.sent e is in (s.first, s.page_is) })
 
@@ -50,7 +50,7 @@ pub returns-clause-out : goal.returns-clause-out
 returns-clause-out g c = λ e is.
     let a = c.in_ok-system.ensures in
     let s = c.try_room-given.ensures.sent e (cc) in
-    out_got g.D.Die.seen g.J.CallJob.suits c.in_ok-system.system.state c.try_room-given.new.state (g.K.Desk.opening c.take.new.self) (g.K.Desk.opening c.args.desk.now) (g.K.Desk.view c.take.new.self) (g.K.Desk.view c.give.new.self) c.args.actor c.try_room-given.new.into (Ok e) e a.turn.1 a.ok.1 refl
+    out_got g.D.Die.seen g.J.CallJob.suits c.in_ok-system.system.state c.try_room-given.new.system.state (g.K.Desk.opening c.take.new.self) (g.K.Desk.opening c.args.desk.now) (g.K.Desk.view c.take.new.self) (g.K.Desk.view c.give.new.self) c.args.actor c.try_room-given.new.into (Ok e) e a.turn.1 a.ok.1 refl
     s.out s.page_is s.stands c.give.ensures.seen
 
 pub returns-in_err-system-clause-went : goal.returns-in_err-system-clause-went

@@ -17,3 +17,9 @@ returns-clause-total g c =
     let given = c.give.ensures.seen _ (c.add.ensures _ _ _ c.in_ok-counter.ensures.ok.1) (inr (adding c.args.actor c.args.amount, refl)) in
     let now = c.add.ensures (g.K.Desk.opening c.take.new.self) (g.K.Desk.view c.take.new.self).seen (g.K.Desk.view c.take.new.self).number c.in_ok-counter.ensures.ok.1 in
     now.2 ∙ (λ i. total_at (c.take.ensures.turn.1 i) (sym (ap (λ w. w.seen) given) i))
+
+pub returns-clause-first : goal.returns-clause-first
+returns-clause-first g c =
+    let made = one_made (g.K.Desk.view c.args.desk.now) (g.K.Desk.view c.take.new.self) _ (adding c.args.actor c.args.amount) c.take.ensures.seen
+    (c.give.ensures.seen _ (c.add.ensures _ _ _ c.in_ok-counter.ensures.ok.1) (inr (adding c.args.actor c.args.amount, refl))) in
+    ap (λ w. w.first) made.2

@@ -9,7 +9,7 @@ returns-clause-root c =
     let items : c.args.jobs.now.items ≡ c.pop.new.self.items ++ c.in-Some.job ∷ [] = c.in-Some.ensures.items in
     let all = subst (λ (js : List Job). Each (IsServed c.args.turn.now) js) items c.requires.served in
     let g = subst (λ (js : List Job). IsGathering c.args.turn.now js c.args.root.now) items c.requires.root in
-    (joined_last c.args.turn.now c.pop.new.self.items c.in-Some.job c.args.root.now c.join.new.root c.in-Some-Some.pass g all (search rules) (search rules) (c.join.ensures.turn, c.join.ensures.free) c.join.ensures.view).0
+    (joined_last c.args.turn.now c.pop.new.self.items c.in-Some.job c.args.root.now c.join.new.root c.in-Some-pass.pass g all (search rules) (search rules) (c.join.ensures.turn, c.join.ensures.free) c.join.ensures.view).0
 
 pub returns-clause-served : goal.returns-clause-served
 returns-clause-served c =
@@ -21,5 +21,5 @@ returns-clause-sum c =
     let items : c.args.jobs.now.items ≡ c.pop.new.self.items ++ c.in-Some.job ∷ [] = c.in-Some.ensures.items in
     let all = subst (λ (js : List Job). Each (IsServed c.args.turn.now) js) items c.requires.served in
     let g = subst (λ (js : List Job). IsGathering c.args.turn.now js c.args.root.now) items c.requires.root in
-    (joined_last c.args.turn.now c.pop.new.self.items c.in-Some.job c.args.root.now c.join.new.root c.in-Some-Some.pass g all (search rules) (search rules) (c.join.ensures.turn, c.join.ensures.free) c.join.ensures.view).1
+    (joined_last c.args.turn.now c.pop.new.self.items c.in-Some.job c.args.root.now c.join.new.root c.in-Some-pass.pass g all (search rules) (search rules) (c.join.ensures.turn, c.join.ensures.free) c.join.ensures.view).1
     ∙ ap (λ (js : List Job). all_in js c.args.root.now) (sym items)

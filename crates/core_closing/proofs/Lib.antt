@@ -1,0 +1,4 @@
+pub mod Shut
+pub mod Keeps
+pub mod Writing
+pub mod Failing

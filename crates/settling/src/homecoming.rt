@@ -1,0 +1,68 @@
+//! A die writes for the last sync, and comes home.
+ghost use Rattle.std.specs.Prelude.{◌≡◌, ℕ, ◌+◌, ◌≤◌, ◌^◌, false, [], IfOk, IfErr};
+ghost use Rattle.turn_cell.specs.Steps.{IsWorn};
+ghost use Rattle.core_state.specs.declared.actor.Actor.TheVariants.{Closer};
+ghost use Rattle.core_state.specs.State.{ToFlush, ToMeta};
+ghost use Rattle.core_state.specs.Happens.{IsClosing};
+ghost use Rattle.system_state.specs.Cores.{core_of};
+ghost use Rattle.system_state.specs.Errands.{IsFresh};
+ghost use Rattle.desk_turns.specs.Passing.{ActsFor, core_seen, Turn, Went};
+ghost use Rattle.flushes.specs.Flushing.{IsInHand, HasFailed};
+ghost use Rattle.settling.specs.Next.{BlockBack, PageBack};
+
+use core_state::Actor;
+use event_turns::turn_meta_in;
+use flash_die::Die;
+use flushes::turn_flush_in;
+use lambda_system::System;
+use page_base::Page;
+use system_state::{CallJob, Errand};
+use turn_cell::{Desk, Worn};
+
+/// The closer's die writes the page of a block, without the turn, and comes home. False: it failed. At `Worn` it is still out.
+pub(crate) fn block_home<D: Die, J: CallJob, K: Desk<System<D, J>>>(
+    desk: &mut K,
+    errand: Errand<D>,
+    page: &Page,
+) -> Result<bool, Worn>
+    requires free { K.is_free desk.old }
+    requires acts { ActsFor (core_of D.seen) (K.opening desk.old) (K.view desk.old) Closer }
+    requires closing { IsClosing (core_seen (core_of D.seen) (K.opening desk.old) (K.view desk.old)) }
+    requires small { (K.opening desk.old).value.places.writes ≤ 2 ^ 62 }
+    requires errand { IsFresh D.seen errand × ((version : ℕ) × IsInHand D.seen (K.opening desk.old) (K.view desk.old).seen Closer (ToFlush errand.subject version page.now) ((K.opening desk.old).value.sizes.meta + errand.subject) errand) }
+    ensures free { K.is_free desk.new }
+    ensures worn { IfErr result (λ x. IsWorn x.count (K.view desk.new)) }
+    ensures turn { (K.table desk.new ≡ K.table desk.old) × (K.opening desk.new ≡ K.opening desk.old) }
+    ensures went { IfErr result (λ _. Went (K.view desk.old) (K.view desk.new) []) }
+    ensures did { IfOk result (λ good. Turn (core_of D.seen) (K.opening desk.old) (K.view desk.old) (K.view desk.new) (BlockBack errand good)) }
+    ensures failed { IfOk result (λ good. good ≡ false → HasFailed D.seen (K.opening desk.old) (K.view desk.old) (K.view desk.new) errand.number) }
+{
+    let mut errand = errand;
+    let good = errand.write(page);
+    turn_flush_in(desk, Actor::Closer, errand)?;
+    Ok(good)
+}
+
+/// The same with a page of the meta data.
+pub(crate) fn page_home<D: Die, J: CallJob, K: Desk<System<D, J>>>(
+    desk: &mut K,
+    errand: Errand<D>,
+    page: &Page,
+) -> Result<bool, Worn>
+    requires free { K.is_free desk.old }
+    requires acts { ActsFor (core_of D.seen) (K.opening desk.old) (K.view desk.old) Closer }
+    requires closing { IsClosing (core_seen (core_of D.seen) (K.opening desk.old) (K.view desk.old)) }
+    requires small { (K.opening desk.old).value.places.writes ≤ 2 ^ 62 }
+    requires errand { IsFresh D.seen errand × IsInHand D.seen (K.opening desk.old) (K.view desk.old).seen Closer (ToMeta errand.subject page.now) errand.subject errand }
+    ensures free { K.is_free desk.new }
+    ensures worn { IfErr result (λ x. IsWorn x.count (K.view desk.new)) }
+    ensures turn { (K.table desk.new ≡ K.table desk.old) × (K.opening desk.new ≡ K.opening desk.old) }
+    ensures went { IfErr result (λ _. Went (K.view desk.old) (K.view desk.new) []) }
+    ensures did { IfOk result (λ good. Turn (core_of D.seen) (K.opening desk.old) (K.view desk.old) (K.view desk.new) (PageBack errand good)) }
+    ensures failed { IfOk result (λ good. good ≡ false → HasFailed D.seen (K.opening desk.old) (K.view desk.old) (K.view desk.new) errand.number) }
+{
+    let mut errand = errand;
+    let good = errand.write(page);
+    turn_meta_in(desk, Actor::Closer, errand)?;
+    Ok(good)
+}

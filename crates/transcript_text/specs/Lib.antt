@@ -1,0 +1,4 @@
+pub mod Print
+pub mod Transcripts
+pub mod Found
+pub mod Again
