@@ -1,3 +1,4 @@
 pub mod Buffers
 pub mod Suits
 pub mod Lending
+pub mod Prepares

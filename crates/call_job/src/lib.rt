@@ -1,7 +1,11 @@
 //! The buffers of a call and its run: all are taken before the call begins, and nothing takes memory afterwards.
 #![tactic(auto)]
 
+mod arming;
 mod copies;
+mod execution;
 mod job;
+mod preparing;
 
 pub use job::Job;
+pub use preparing::{PrepareErr, Prepared};
