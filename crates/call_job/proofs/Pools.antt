@@ -13,12 +13,12 @@ use Rattle.call_job.specs.Prepares.{second_of, flat_of, data_of, AreRegions, roo
 use Rattle.call_job.specs.declared.job.Job.{Job}
 
 pub rest_is : (job : Job) (call : Call) → length job.second.items ≡ second_of call → job.flat ≡ flat_of call → length job.data.items ≡ data_of call → AreRegions call job.regions → job.code.room ≡ room_of call → job.ran ≡ None → HasRest job call
-rest_is job (Read name off n) second flat data regions room ran = data
-rest_is job (Readl file off n function fuel cap param) second flat data regions room ran =
+rest_is job (Read name off n) second flat bytes regions room ran = bytes
+rest_is job (Readl file off n function fuel cap param) second flat bytes regions room ran =
     (record { regions = regions; room = room }, ap length flat ∙ length-replicate {A = ℕ} cap 0, λ e. flat)
-rest_is job (Writel file off n function fuel param input) second flat data regions room ran =
+rest_is job (Writel file off n function fuel param input) second flat bytes regions room ran =
     (record { regions = regions; room = room }, flat, omega (arith, second), λ d. absurd (d ran))
-rest_is job call second flat data regions room ran = tt
+rest_is job call second flat bytes regions room ran = tt
 
 -- ---- spans are no longer than the pages that were taken
 

@@ -119,4 +119,62 @@ impl Job {
         self.flat = flat;
         self.ran = Some(outcome);
     }
+
+    /// Runs the function of a `writel` on a second set of pages, into which the gathered ones are copied.
+    fn run_writel(&mut self, off: u64, n: u64, fuel: u64)
+        requires there { is_some self.old.regions ≡ true }
+        requires param { (param : List ℕ) → HasParam self.old.regions param → length param ≤ 2 ^ 32 }
+        requires pages { self.old.reach.pages ≤ length self.old.pages.items }
+        requires second { self.old.reach.pages ≤ length self.old.second.items }
+        requires fits { 0 < n → off % 4096 + n ≤ 4096 * self.old.reach.pages }
+        requires short { n ≤ 2 ^ 32 }
+        requires input { length self.old.flat ≤ 2 ^ 32 }
+        ensures ran { (param : List ℕ) → HasParam self.old.regions param → option_map (λ r. outcome_of r (span_part self.new.second.items (off % 4096) n)) self.new.ran
+            ≡ Some (machine.run self.old.code.insns (machine.shaped self.old.flat (paged_bytes (page_in self.old.pages.items) (off % 4096) n) param) fuel) }
+        ensures wrote { HasWritten self.new (off % 4096) n }
+        ensures same { SameButRun self.old self.new }
+        ensures input { self.new.flat ≡ self.old.flat }
+        ensures many { length self.new.second.items ≡ length self.old.second.items }
+        ensures param { (param : List ℕ) → HasParam self.old.regions param → HasParam self.new.regions param }
+    {
+        let len = n as usize;
+        let start = place_of(off, len);
+        copy_span(&mut self.second, &self.pages, self.reach.pages);
+        let second = mem::replace(&mut self.second, Vec::new(self.alloc));
+        let input = mem::replace(&mut self.flat, Bytes::new(Vec::new(self.alloc)));
+        let Ran {
+            pages,
+            flat,
+            outcome,
+        } = run_over_output(
+            self.alloc,
+            &self.code,
+            &mut self.regions,
+            input,
+            second,
+            start,
+            len,
+            fuel,
+        );
+        self.second = pages;
+        self.flat = flat;
+        self.ran = Some(outcome);
+    }
+
+    /// Runs the function of its call, whose pages are gathered. The job then has the result of that run, and its gathered pages as they
+    /// were. Takes no memory.
+    pub fn execute(&mut self)
+        requires ready { IsReady self.old }
+        requires lambda { is_lambda self.old.request.call ≡ true }
+        requires fresh { self.old.ran ≡ None }
+        ensures ran { given self.new ≡ Some (run_on self.old.request.call self.old.code.insns self.old.readable (page_in self.old.pages.items)) }
+        ensures same { SameButRun self.old self.new }
+        ensures ready { IsReady self.new }
+    {
+        match self.request.call {
+            Call::Readl { off, fuel, .. } => self.run_readl(off, fuel),
+            Call::Writel { off, len, fuel, .. } => self.run_writel(off, len, fuel),
+            _ => unreachable!(),
+        }
+    }
 }
