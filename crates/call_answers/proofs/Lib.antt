@@ -1,2 +1,5 @@
 pub mod Found
 pub mod Wholes
+pub mod Reaches
+pub mod Replies
+pub mod Stored

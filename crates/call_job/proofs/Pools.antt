@@ -35,7 +35,7 @@ read_pool off n len = go (n == 0) refl
     go true e = omega arith
     go false e = let l = more_of n e in omega arith
 
-write_pool : (off n len : ℕ) → (write_reach off n len).pages ≤ most_pages n
+pub write_pool : (off n len : ℕ) → (write_reach off n len).pages ≤ most_pages n
 write_pool off n len = go (n == 0) refl
   where
     go : (z : Bool) → (n == 0) ≡ z → (if z then no_reach else record { mode = Exclusive; from = if nat_lt len (off + n) then min (off / 4096) (len / 4096) else off / 4096; to = Pages (off + n); first = off / 4096; pages = Pages (off + n) - off / 4096; begin = off; end = off + n }).pages ≤ (if z then 0 else (n + 4094) / 4096 + 1)

@@ -171,9 +171,15 @@ impl Job {
         ensures same { SameButRun self.old self.new }
         ensures ready { IsReady self.new }
     {
-        match self.request.call {
-            Call::Readl { off, fuel, .. } => self.run_readl(off, fuel),
-            Call::Writel { off, len, fuel, .. } => self.run_writel(off, len, fuel),
+        match &self.request.call {
+            Call::Readl { off, fuel, .. } => {
+                let (off, fuel) = (*off, *fuel);
+                self.run_readl(off, fuel);
+            }
+            Call::Writel { off, len, fuel, .. } => {
+                let (off, len, fuel) = (*off, *len, *fuel);
+                self.run_writel(off, len, fuel);
+            }
             _ => unreachable!(),
         }
     }

@@ -1,5 +1,4 @@
 use Rattle.call_answers.proofs.Wholes.{put_long}
-use Rattle.call_answers.proofs.Found.{new_found}
 use Rattle.call_answers.proofs.laws.put_lengthens.Goals as goal
 
 pub returns : goal.returns
