@@ -162,10 +162,10 @@ same_param o p q a b = sym a.holds ∙ (ap param_of (same_some o a.there b.there
 pub param_short : (job : Job) (off m : ℕ) (param : List ℕ) → Asks job off m param → (p : List ℕ) → HasParam job.regions p → length p ≤ 2 ^ 32
 param_short job off m param a p h = let e = ap (λ (x : List ℕ). length x) (same_param job.regions p param h a.has) in let s = a.short in omega arith
 
-pages_is : (job : Job) (r : IsReady job) → job.reach.pages ≡ (core_reach.reach_of job.request.call r.len).pages
+pub pages_is : (job : Job) (r : IsReady job) → job.reach.pages ≡ (core_reach.reach_of job.request.call r.len).pages
 pages_is job r = ap (λ (k : CoreReach). k.pages) r.reach
 
-pool_has : (job : Job) → IsReady job → job.reach.pages ≤ length job.pages.items
+pub pool_has : (job : Job) → IsReady job → job.reach.pages ≤ length job.pages.items
 pool_has job r = let a = pool_enough job.request.call r.len in let b = r.buffers.pool in let c = pages_is job r in omega arith
 
 pub readl_asks : (job : Job) (file function : List ℕ) (off n fuel cap : ℕ) (param : List ℕ) → job.request.call ≡ Readl file off n function fuel cap param → IsReady job → Asks job off job.readable param

@@ -46,7 +46,7 @@ fn put_length(len: u32, off: u64, n: usize) -> u32
 }
 
 /// The first bytes of the reply's buffer are those of a span from a place on.
-fn read_into(pages: &[Page], count: u32, start: usize, data: Vec<u8>, len: u32) -> Bytes
+pub(crate) fn read_into(pages: &[Page], count: u32, start: usize, data: Vec<u8>, len: u32) -> Bytes
     requires start { start ≤ 4096 }
     requires count { count ≤ length pages.now }
     requires few { count ≤ 65 }

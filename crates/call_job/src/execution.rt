@@ -77,7 +77,7 @@ fn run_over_output(
 }
 
 /// The place of a byte in its page; of no bytes, 0.
-fn place_of(off: u64, len: usize) -> usize
+pub(crate) fn place_of(off: u64, len: usize) -> usize
     ensures value { 0 < len → result ≡ off % 4096 }
     ensures none { len ≡ 0 → result ≡ 0 }
 {

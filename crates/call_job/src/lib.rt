@@ -3,9 +3,11 @@
 
 mod arming;
 mod copies;
+mod ending;
 mod execution;
 mod job;
 mod preparing;
+mod reading;
 
 pub use job::Job;
 pub use preparing::{PrepareErr, Prepared};
