@@ -3,3 +3,4 @@ pub mod Wholes
 pub mod Reaches
 pub mod Replies
 pub mod Stored
+pub mod Cutting
