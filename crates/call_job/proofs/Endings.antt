@@ -66,9 +66,8 @@ ran_is c lane call job h e all s =
 
 -- what the reply of a `read` asks of its job
 pub record Reads (job : Job) (off : ℕ) : Type 0 where
-  pub pages : job.reach.pages ≤ length job.pages.items
-  pub few : job.reach.pages ≤ 65
-  pub fits : 0 < job.readable → off % 4096 + job.readable ≤ 4096 * job.reach.pages
+  pub few : length job.pages.items ≤ 65
+  pub fits : 0 < job.readable → off % 4096 + job.readable ≤ 4096 * length job.pages.items
   pub room : job.readable ≤ length job.data.items
 
 pub read_asks : (job : Job) (name : List ℕ) (off n : ℕ) → job.request.call ≡ Read name off n → IsReady job → Reads job off
@@ -80,8 +79,7 @@ read_asks job name off n is r =
     let has = pool_has job r in
     let most = r.buffers.few in
     record {
-      pages = has;
-      few = omega arith;
+      few = most;
       fits = λ l. let f = has_fits (read_reach off n r.len) off (min n (r.len - off)) (read_has off n r.len) (omega arith) in omega arith;
       room = omega arith;
     }
@@ -128,3 +126,20 @@ readl_answer c lane call job file function off n fuel cap param reply r h e s is
     q
     ∙ (ap (read_reply cap) (ended_is job file function off n fuel cap param (outcome_of (plain c) call.claim.request.call) is r (g (ap is_lambda k)))
     ∙ sym (readl_reply c lane call file function off n fuel cap param h e k))
+
+-- only those read
+pub read_only : (call : Call) → is_read call ≡ true → ((name : List ℕ) (off n : ℕ) → call ≡ Read name off n → ⊥) → ((file function : List ℕ) (off n fuel cap : ℕ) (param : List ℕ) → call ≡ Readl file off n function fuel cap param → ⊥) → ⊥
+read_only (Read name off n) l a b = a name off n refl
+read_only (Readl file off n function fuel cap param) l a b = b file function off n fuel cap param refl
+read_only call l a b = cc
+
+-- a plain read runs nothing
+pub read_runs_none : {P : Type 0} (job : Job) (request : Request) (name : List ℕ) (off n : ℕ) → job.request.call ≡ Read name off n → job.request ≡ request → is_lambda request.call ≡ true → P
+read_runs_none job request name off n is s l = absurd (let e : is_lambda (Read name off n) ≡ true = ap is_lambda (sym is ∙ ap (λ (q : Request). q.call) s) ∙ l in cc)
+
+pub readl_used : (c : Core) (call : Flight) (job : Job) (file function : List ℕ) (off n fuel cap used : ℕ) (param : List ℕ) (r : IsRun job) → job.request.call ≡ Readl file off n function fuel cap param → job.request ≡ call.claim.request → given job ≡ Some (outcome_of (plain c) call.claim.request.call) →
+    used ≡ used_of (exec.outcome_of r.outcome job.flat) fuel → used ≡ used_of (outcome_of (plain c) call.claim.request.call) (fuel_of call.claim.request.call)
+readl_used c call job file function off n fuel cap used param r is s g q =
+    q
+    ∙ (ap (λ (o : machine.Outcome). used_of o fuel) (ended_is job file function off n fuel cap param (outcome_of (plain c) call.claim.request.call) is r g)
+    ∙ ap (λ (k : Call). used_of (outcome_of (plain c) call.claim.request.call) (fuel_of k)) (sym is ∙ ap (λ (x : Request). x.call) s))

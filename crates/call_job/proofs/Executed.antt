@@ -23,7 +23,7 @@ use Rattle.core_lemmas.proofs.Words.{same_some}
 use Rattle.core_outcomes.specs.Known.{paged_bytes, ArePages, run_on}
 use Rattle.core_outcomes.proofs.Joined.{joined}
 use Rattle.core_outcomes.proofs.Bytes.{length_fn, get_fn}
-use Rattle.span_bytes.specs.Spans.{page_in, over, span_part}
+use Rattle.span_bytes.specs.Spans.{page_in, byte_in, over, span_part}
 use Rattle.span_bytes.proofs.Pointwise.{less_or_not, low_over, high_over}
 use Rattle.system_state.specs.declared.lanes.Reach.{Reach}
 use Rattle.system_state.specs.Cores.{reach_of}
@@ -224,3 +224,10 @@ writel_gives old new file function off n fuel param input is s r ran =
     ap (λ (k : Call). option_map (λ (r : Outcome). outcome_of r (put_out new k)) new.ran) q
     ∙ (ran ∙ (ap (λ (i : List ℕ). Some (machine.run old.code.insns (machine.shaped i (paged_bytes (page_in old.pages.items) (off % 4096) n) param) fuel)) h.1
     ∙ ap (λ (k : Call). Some (run_on k old.code.insns old.readable (page_in old.pages.items))) (sym is)))
+
+-- bytes that are those of pages, one by one
+pub bytes_paged : (pages : List Page) (xs : List ℕ) (start n : ℕ) → length xs ≡ n → ((k : ℕ) → k < n → get_or xs k 0 ≡ byte_in pages (start + k)) → xs ≡ paged_bytes (page_in pages) start n
+bytes_paged pages xs start n long same =
+    let f = λ (j : ℕ). byte_in pages (start + j) in
+    let z = length_fn n f in
+    ext_get_or 0 xs (paged_bytes (page_in pages) start n) (long ∙ sym z) (λ k l. let m : k < n = omega arith in same k m ∙ sym (get_fn n f k m))

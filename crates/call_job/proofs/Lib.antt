@@ -1,3 +1,4 @@
 pub mod Pools
 pub mod Executed
 pub mod Endings
+pub mod Putting

@@ -2,3 +2,4 @@ pub mod Buffers
 pub mod Suits
 pub mod Lending
 pub mod Prepares
+pub mod Puts

@@ -5,7 +5,7 @@ ghost use Rattle.sbpf_insn.specs.Machine as machine;
 ghost use Rattle.sbpf_exec.specs.Outcomes.{outcome_of, UsesAtMost};
 ghost use Rattle.core_state.specs.PlainOf.{used_of};
 ghost use Rattle.core_outcomes.specs.Known.{paged_bytes};
-ghost use Rattle.span_bytes.specs.Spans.{page_in, over};
+ghost use Rattle.span_bytes.specs.Spans.{page_in, byte_in, over};
 ghost use Rattle.call_answers.specs.Ends.{put_length, has_room, read_reply};
 
 use edge_io::Bytes;
@@ -45,20 +45,31 @@ fn put_length(len: u32, off: u64, n: usize) -> u32
     len.max((off + n as u64) as u32)
 }
 
-/// The first bytes of the reply's buffer are those of a span from a place on.
-pub(crate) fn read_into(pages: &[Page], count: u32, start: usize, data: Vec<u8>, len: u32) -> Bytes
+/// Fills a buffer with the bytes of a span from a place on.
+fn fill(pages: &[Page], start: usize, data: &mut [u8])
     requires start { start ≤ 4096 }
-    requires count { count ≤ length pages.now }
-    requires few { count ≤ 65 }
-    requires fits { 0 < len → start + len ≤ 4096 * count }
+    requires few { length pages.now ≤ 65 }
+    requires short { length data.old ≤ 2 ^ 32 }
+    requires fits { 0 < length data.old → start + length data.old ≤ 4096 * length pages.now }
+    ensures { (k : ℕ) → k < length data.old → get_or data.new k 0 ≡ byte_in pages.now (start + k) }
+{
+    if data.is_empty() {
+        return;
+    }
+    read_span(pages, start, data);
+}
+
+/// The first bytes of a buffer are those of a span from a place on.
+pub(crate) fn read_into(pages: &[Page], start: usize, data: Vec<u8>, len: u32) -> Bytes
+    requires start { start ≤ 4096 }
+    requires few { length pages.now ≤ 65 }
+    requires fits { 0 < len → start + len ≤ 4096 * length pages.now }
     requires room { len ≤ length data.items }
     ensures { result ≡ paged_bytes (page_in pages.now) start len }
 {
     let mut data = data;
     data.truncate(len as usize);
-    if len > 0 {
-        read_span(&pages[..count as usize], start, &mut data);
-    }
+    fill(pages, start, &mut data);
     Bytes::new(data)
 }
 

@@ -8,6 +8,8 @@ mod execution;
 mod job;
 mod preparing;
 mod reading;
+mod storing;
 
 pub use job::Job;
 pub use preparing::{PrepareErr, Prepared};
+pub use storing::Finished;

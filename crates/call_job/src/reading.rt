@@ -25,22 +25,15 @@ use system_ends::Ending;
 impl Job {
     /// The reply to a `read`.
     fn reply_data(&mut self, off: u64) -> Reply
-        requires pages { self.old.reach.pages ≤ length self.old.pages.items }
-        requires few { self.old.reach.pages ≤ 65 }
-        requires fits { 0 < self.old.readable → off % 4096 + self.old.readable ≤ 4096 * self.old.reach.pages }
+        requires few { length self.old.pages.items ≤ 65 }
+        requires fits { 0 < self.old.readable → off % 4096 + self.old.readable ≤ 4096 * length self.old.pages.items }
         requires room { self.old.readable ≤ length self.old.data.items }
         ensures reply { result ≡ DataBytes (paged_bytes (page_in self.old.pages.items) (off % 4096) self.old.readable) }
         ensures pages { self.new.pages.items ≡ self.old.pages.items }
     {
         let data = mem::replace(&mut self.data, Vec::new(self.alloc));
         let start = (off % 4096) as usize;
-        Reply::DataBytes(read_into(
-            &self.pages,
-            self.reach.pages,
-            start,
-            data,
-            self.readable,
-        ))
+        Reply::DataBytes(read_into(&self.pages, start, data, self.readable))
     }
 
     /// The reply to a `readl` whose function has run, and the fuel that it used.
