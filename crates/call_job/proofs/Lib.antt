@@ -2,3 +2,4 @@ pub mod Pools
 pub mod Executed
 pub mod Endings
 pub mod Putting
+pub mod Cuts

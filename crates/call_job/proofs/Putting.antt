@@ -24,7 +24,7 @@ use Rattle.span_bytes.specs.Spans.{page_in, over}
 use Rattle.call_answers.specs.Ends.{filled, put_length, has_room, EndsAs, Puts}
 use Rattle.call_answers.proofs.Found.{Finds, finds}
 use Rattle.call_answers.proofs.Stored.{put_ends}
-use Rattle.call_job.specs.Puts.{stored_reply, stored_len}
+use Rattle.call_job.specs.Puts.{puts_bytes, stored_reply, stored_len}
 use Rattle.call_job.specs.Suits.{IsReady, Suits}
 use Rattle.call_job.specs.declared.job.Job.{Job}
 use Rattle.call_job.proofs.Executed.{pool_has}
@@ -138,3 +138,13 @@ append_ends c lane call job name bytes off len fill capacity result new is some 
   where
     place : (off len n : ℕ) → (0 < n → off ≡ len) → (n ≡ 0 → off ≡ len) → off ≡ len
     place off len n a b = ⊎_elim (λ (z : n < 1). b (omega arith)) (λ (p : 1 ≤ n). a (omega arith)) (less_or_not n 1)
+
+pub ends_by : (c : Core) (call : Flight) (reply reply2 : Reply) (len len2 : ℕ) (pages pages2 : List (List ℕ)) → EndsAs c call reply len pages → reply2 ≡ reply → len2 ≡ len → pages2 ≡ pages → EndsAs c call reply2 len2 pages2
+ends_by c call reply reply2 len len2 pages pages2 e r l p =
+    subst (λ (x : Reply). EndsAs c call x len2 pages2) (sym r) (subst (λ (x : ℕ). EndsAs c call reply x pages2) (sym l) (subst (EndsAs c call reply len) (sym p) e))
+
+-- only those put bytes
+pub put_only : (call : Call) → puts_bytes call ≡ true → ((name : List ℕ) (off : ℕ) (bytes : List ℕ) → call ≡ Write name off bytes → ⊥) → ((name bytes : List ℕ) → call ≡ Append name bytes → ⊥) → ⊥
+put_only (Write name off bytes) l a b = a name off bytes refl
+put_only (Append name bytes) l a b = b name bytes refl
+put_only call l a b = cc

@@ -23,7 +23,7 @@ fn pages_for(len: u32) -> u64
 }
 
 /// Whether all files fit, which have so many pages, once a file of a length has another one.
-fn has_room(pages: u64, capacity: u32, old: u32, new: u32) -> bool
+pub(crate) fn has_room(pages: u64, capacity: u32, old: u32, new: u32) -> bool
     requires pages { pages ≤ 2 ^ 32 }
     requires old { old ≤ 2 ^ 28 }
     requires new { new ≤ 2 ^ 28 }

@@ -3,6 +3,7 @@
 
 mod arming;
 mod copies;
+mod cutting;
 mod ending;
 mod execution;
 mod job;

@@ -25,7 +25,7 @@ pub struct Finished {
 }
 
 /// The end of a call that stored bytes, or had no room.
-fn stored(new: Option<u32>, reply: Reply, len: u32) -> Finished
+pub(crate) fn stored(new: Option<u32>, reply: Reply, len: u32) -> Finished
     ensures reply { result.ending.reply ≡ stored_reply new reply }
     ensures len { result.len ≡ stored_len new len }
 {
@@ -57,13 +57,13 @@ impl Job {
     /// What a `write` or an `append` ends with, once its pages are gathered, on a file of this length, where all files have so many pages and
     /// the drive so many blocks. The pages of its span are then those that its file gets; where they don't fit, they are as they were.
     /// Takes no memory.
-    pub fn finish_putting(&mut self, len: u32, filled: u64, capacity: u32) -> Finished
+    pub fn finish_putting(&mut self, len: u32, in_use: u64, capacity: u32) -> Finished
         requires ready { IsReady self.old }
         requires puts { puts_bytes self.old.request.call ≡ true }
         requires len { len ≤ 2 ^ 28 }
-        requires filled { filled ≤ 2 ^ 32 }
+        requires in_use { in_use ≤ 2 ^ 32 }
         ensures ends { (c : Core) (lane : ℕ) (call : Flight) → Coherent c → c.calls lane ≡ Some call → HasGathered call → Suits self.old (view_of c.names call) → len ≡ len_for c.names call.claim →
-            filled ≡ filled c.names.files → capacity ≡ c.shape.blocks → EndsAs c call result.ending.reply result.len self.new.pages.items }
+            in_use ≡ filled c.names.files → capacity ≡ c.shape.blocks → EndsAs c call result.ending.reply result.len self.new.pages.items }
     {
         match &self.request.call {
             Call::Write(_, off, bytes) => {
@@ -73,7 +73,7 @@ impl Job {
                     *off,
                     bytes.as_slice(),
                     len,
-                    filled,
+                    in_use,
                     capacity,
                 );
                 stored(new, Reply::Done, len)
@@ -86,7 +86,7 @@ impl Job {
                     off,
                     bytes.as_slice(),
                     len,
-                    filled,
+                    in_use,
                     capacity,
                 );
                 stored(new, Reply::At(off), len)
