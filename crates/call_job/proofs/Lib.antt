@@ -1,1 +1,5 @@
 pub mod Pools
+pub mod Executed
+pub mod Endings
+pub mod Putting
+pub mod Cuts

@@ -1,3 +1,5 @@
 pub mod Buffers
 pub mod Suits
 pub mod Lending
+pub mod Prepares
+pub mod Puts

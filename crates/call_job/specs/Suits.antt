@@ -54,3 +54,12 @@ pub record Suits (job : Job) (view : JobView) : Type 0 where
   pub ready : IsReady job
   pub gathered : (i : ℕ) (p : List ℕ) → i < view.flight.claim.reach.pages → view.flight.gathered i ≡ Some p → page_in job.pages.items i ≡ p
   pub result : HasResult job view.flight.phase
+
+-- a run changes what the function puts out, and nothing that its call has gathered
+pub record SameButRun (old new : Job) : Type 0 where
+  pub request : new.request ≡ old.request
+  pub side : new.side ≡ old.side
+  pub reach : new.reach ≡ old.reach
+  pub readable : new.readable ≡ old.readable
+  pub code : new.code ≡ old.code
+  pub pages : new.pages.items ≡ old.pages.items

@@ -1,7 +1,16 @@
 //! The buffers of a call and its run: all are taken before the call begins, and nothing takes memory afterwards.
 #![tactic(auto)]
 
+mod arming;
 mod copies;
+mod cutting;
+mod ending;
+mod execution;
 mod job;
+mod preparing;
+mod reading;
+mod storing;
 
 pub use job::Job;
+pub use preparing::{PrepareErr, Prepared};
+pub use storing::Finished;
