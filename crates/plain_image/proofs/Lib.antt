@@ -7,4 +7,3 @@ pub mod Readings
 pub mod Again
 pub mod Loaded
 pub mod Drawn
-pub mod Written
