@@ -1,0 +1,105 @@
+//! Commands.
+
+use crate::options::{Crew, Setup};
+use edge_io::{Bytes, Text};
+use page_base::Geometry;
+
+/// A command that neither waits nor starts threads, with its words in their order.
+#[derive(Drop)]
+pub enum Quiet {
+    /// `mkimage OUT BLOCKS DIES`
+    MakeImage {
+        out: Text,
+        geometry: Geometry,
+    },
+    /// `asm SRC OUT`
+    Asm {
+        source: Text,
+        out: Text,
+    },
+    /// `disasm OBJ`
+    Disasm {
+        object: Text,
+    },
+    /// `verify OBJ`
+    Verify {
+        object: Text,
+    },
+    /// `check IMAGE SCRIPT TRANSCRIPT`
+    Check {
+        image: Text,
+        script: Text,
+        transcript: Text,
+    },
+    /// `solo IMAGE SCRIPT OUT` and options
+    Solo {
+        image: Text,
+        script: Text,
+        out: Text,
+        setup: Setup,
+    },
+    /// `bench START CALLS`
+    Bench {
+        start: u64,
+        calls: u32,
+    },
+    /// `elf OBJ SECTION OUT`
+    Elf {
+        object: Text,
+        section: Text,
+        out: Text,
+    },
+    /// `predc PRED WIDTH OUT`
+    CompilePred {
+        pred: Text,
+        width: u32,
+        out: Text,
+    },
+    /// `select IMAGE FILE PRED WIDTH`
+    Select {
+        image: Text,
+        file: Text,
+        pred: Text,
+        width: u32,
+    },
+}
+
+/// How a file is cut into pieces, and how a function runs over each: the bytes of a piece, the fuel, and the
+/// capacity of its output.
+#[derive(Clone, Copy, Debug, PartialEq, Eq)]
+pub struct Pieces {
+    pub chunk: u32,
+    pub fuel: u64,
+    pub cap: u32,
+}
+
+/// `scan IMAGE FILE OBJ CHUNK FUEL CAP PARAM`
+#[derive(Drop)]
+pub struct Scan {
+    pub image: Text,
+    pub file: Text,
+    pub object: Text,
+    pub pieces: Pieces,
+    pub param: Bytes,
+}
+
+/// `run IMAGE SCRIPT OUT` and options
+#[derive(Drop)]
+pub struct Run {
+    pub image: Text,
+    pub script: Text,
+    pub out: Text,
+    pub setup: Setup,
+    pub crew: Crew,
+}
+
+/// What the words ask for.
+#[derive(Drop)]
+pub enum Command {
+    /// A command that neither waits nor starts threads.
+    Quiet(Quiet),
+    /// A function over all pieces of a file, in parallel.
+    Scan(Scan),
+    /// The calls of a script, a thread for each lane.
+    Run(Run),
+}

@@ -1,0 +1,228 @@
+//! The words and their command.
+ghost use Rattle.std.specs.Prelude.{◌≡◌, map, string_bytes, IfOk, OnErr, IsSome};
+ghost use Rattle.command_words.specs.Places.{param_of};
+ghost use Rattle.command_words.specs.Commands.{pieces_of, scan_with, scan_of, run_named, run_of, quiet_named, quiet_of, asked_quiet, asked_scan, asked_run, command_named, command_of};
+
+use crate::command::{Command, Pieces, Quiet, Run, Scan};
+use crate::numbers::{number_in, wide_number_in};
+use crate::options::{Crew, Setup, run_options};
+use crate::params::param_of;
+use crate::places::{are_files, text};
+use crate::quiet::{
+    asm_of, bench_of, check_of, disasm_of, elf_of, mkimage_of, predc_of, select_of, solo_of,
+    verify_of,
+};
+use edge_io::Bytes;
+use std::alloc::{AllocError, Global};
+
+/// The most bytes of a piece of a file.
+const MOST_CHUNK: u32 = 262_144;
+
+/// The most fuel of a run.
+const MOST_FUEL: u64 = 4_294_967_296;
+
+#[tactic(auto, unfolding(crate::specs::Commands::pieces_of))]
+fn pieces_of(chunk: &str, fuel: &str, cap: &str) -> Option<Pieces>
+    ensures { result ≡ pieces_of chunk.now fuel.now cap.now }
+{
+    let chunk = number_in(1, MOST_CHUNK, chunk.as_bytes())?;
+    let fuel = wide_number_in(0, MOST_FUEL, fuel.as_bytes())?;
+    let cap = number_in(0, 4096, cap.as_bytes())?;
+    Some(Pieces { chunk, fuel, cap })
+}
+
+// No word is judged here.
+fn scan_named(
+    alloc: Global,
+    image: &str,
+    file: &str,
+    object: &str,
+    pieces: Pieces,
+    param: Bytes,
+) -> Result<Scan, AllocError>
+    ensures { IfOk result (λ scan. scan ≡ record { image = image.now; file = file.now; object = object.now; pieces = pieces; param = param }) }
+{
+    let image = text(alloc, image)?;
+    let file = text(alloc, file)?;
+    let object = text(alloc, object)?;
+    Ok(Scan {
+        image,
+        file,
+        object,
+        pieces,
+        param,
+    })
+}
+
+fn scan_with(
+    alloc: Global,
+    image: &str,
+    file: &str,
+    object: &str,
+    pieces: Option<Pieces>,
+    param: &str,
+) -> Result<Option<Scan>, AllocError>
+    ensures ok { IfOk result (λ command. command ≡ scan_with image.now file.now object.now pieces (param_of param.now)) }
+    ensures err { OnErr result (IsSome (scan_with image.now file.now object.now pieces (param_of param.now))) }
+{
+    let Some(pieces) = pieces else {
+        return Ok(None);
+    };
+    if !are_files(image, file, object) {
+        return Ok(None);
+    }
+    let Some(param) = param_of(alloc, param.as_bytes())? else {
+        return Ok(None);
+    };
+    Ok(Some(scan_named(alloc, image, file, object, pieces, param)?))
+}
+
+fn scan_of(alloc: Global, words: &[String]) -> Result<Option<Scan>, AllocError>
+    ensures ok { IfOk result (λ command. command ≡ scan_of (map string_bytes words.now)) }
+    ensures err { OnErr result (IsSome (scan_of (map string_bytes words.now))) }
+{
+    let [image, file, object, chunk, fuel, cap, param] = words else {
+        return Ok(None);
+    };
+    let pieces = pieces_of(chunk.as_str(), fuel.as_str(), cap.as_str());
+    scan_with(
+        alloc,
+        image.as_str(),
+        file.as_str(),
+        object.as_str(),
+        pieces,
+        param.as_str(),
+    )
+}
+
+fn run_named(
+    alloc: Global,
+    image: &str,
+    script: &str,
+    out: &str,
+    options: Option<(Setup, Crew)>,
+) -> Result<Option<Run>, AllocError>
+    ensures ok { IfOk result (λ command. command ≡ run_named image.now script.now out.now options) }
+    ensures err { OnErr result (IsSome (run_named image.now script.now out.now options)) }
+{
+    let Some((setup, crew)) = options else {
+        return Ok(None);
+    };
+    if !are_files(image, script, out) {
+        return Ok(None);
+    }
+    let image = text(alloc, image)?;
+    let script = text(alloc, script)?;
+    let out = text(alloc, out)?;
+    Ok(Some(Run {
+        image,
+        script,
+        out,
+        setup,
+        crew,
+    }))
+}
+
+fn run_of(alloc: Global, words: &[String]) -> Result<Option<Run>, AllocError>
+    ensures ok { IfOk result (λ command. command ≡ run_of (map string_bytes words.now)) }
+    ensures err { OnErr result (IsSome (run_of (map string_bytes words.now))) }
+{
+    let [image, script, out, options @ ..] = words else {
+        return Ok(None);
+    };
+    let options = run_options(options);
+    run_named(
+        alloc,
+        image.as_str(),
+        script.as_str(),
+        out.as_str(),
+        options,
+    )
+}
+
+#[tactic(auto, unfolding(crate::specs::Commands::quiet_named))]
+fn quiet_named(alloc: Global, verb: &str, rest: &[String]) -> Result<Option<Quiet>, AllocError>
+    ensures ok { IfOk result (λ command. command ≡ quiet_named verb.now (map string_bytes rest.now)) }
+    ensures err { OnErr result (IsSome (quiet_named verb.now (map string_bytes rest.now))) }
+{
+    match verb {
+        "mkimage" => mkimage_of(alloc, rest),
+        "asm" => asm_of(alloc, rest),
+        "disasm" => disasm_of(alloc, rest),
+        "verify" => verify_of(alloc, rest),
+        "check" => check_of(alloc, rest),
+        "solo" => solo_of(alloc, rest),
+        "bench" => Ok(bench_of(rest)),
+        "elf" => elf_of(alloc, rest),
+        "predc" => predc_of(alloc, rest),
+        "select" => select_of(alloc, rest),
+        _ => Ok(None),
+    }
+}
+
+/// The command of the words, of those that neither wait nor start threads: every one but `run` and `scan`. None
+/// where the words are no such command, for which no memory is wanted.
+pub fn quiet_of(alloc: Global, words: &[String]) -> Result<Option<Quiet>, AllocError>
+    ensures ok { IfOk result (λ command. command ≡ quiet_of (map string_bytes words.now)) }
+    ensures err { OnErr result (IsSome (quiet_of (map string_bytes words.now))) }
+{
+    let [verb, rest @ ..] = words else {
+        return Ok(None);
+    };
+    quiet_named(alloc, verb.as_str(), rest)
+}
+
+#[tactic(auto, using(crate::proofs::Asked::quiet_asked))]
+fn asked_quiet(alloc: Global, verb: &str, rest: &[String]) -> Result<Option<Command>, AllocError>
+    ensures ok { IfOk result (λ command. command ≡ asked_quiet (quiet_named verb.now (map string_bytes rest.now))) }
+    ensures err { OnErr result (IsSome (asked_quiet (quiet_named verb.now (map string_bytes rest.now)))) }
+{
+    match quiet_named(alloc, verb, rest)? {
+        Some(quiet) => Ok(Some(Command::Quiet(quiet))),
+        None => Ok(None),
+    }
+}
+
+#[tactic(auto, using(crate::proofs::Asked::scan_asked))]
+fn asked_scan(alloc: Global, words: &[String]) -> Result<Option<Command>, AllocError>
+    ensures ok { IfOk result (λ command. command ≡ asked_scan (scan_of (map string_bytes words.now))) }
+    ensures err { OnErr result (IsSome (asked_scan (scan_of (map string_bytes words.now)))) }
+{
+    match scan_of(alloc, words)? {
+        Some(scan) => Ok(Some(Command::Scan(scan))),
+        None => Ok(None),
+    }
+}
+
+#[tactic(auto, using(crate::proofs::Asked::run_asked))]
+fn asked_run(alloc: Global, words: &[String]) -> Result<Option<Command>, AllocError>
+    ensures ok { IfOk result (λ command. command ≡ asked_run (run_of (map string_bytes words.now))) }
+    ensures err { OnErr result (IsSome (asked_run (run_of (map string_bytes words.now)))) }
+{
+    match run_of(alloc, words)? {
+        Some(run) => Ok(Some(Command::Run(run))),
+        None => Ok(None),
+    }
+}
+
+fn command_named(alloc: Global, verb: &str, rest: &[String]) -> Result<Option<Command>, AllocError>
+    ensures ok { IfOk result (λ command. command ≡ command_named verb.now (map string_bytes rest.now)) }
+    ensures err { OnErr result (IsSome (command_named verb.now (map string_bytes rest.now))) }
+{
+    match verb {
+        "scan" => asked_scan(alloc, rest),
+        "run" => asked_run(alloc, rest),
+        _ => asked_quiet(alloc, verb, rest),
+    }
+}
+
+/// The command of the words; none where they are outside the grammar, for which no memory is wanted.
+pub fn command_of(alloc: Global, words: &[String]) -> Result<Option<Command>, AllocError>
+    ensures ok { IfOk result (λ command. command ≡ command_of (map string_bytes words.now)) }
+    ensures err { OnErr result (IsSome (command_of (map string_bytes words.now))) }
+{
+    let [verb, rest @ ..] = words else {
+        return Ok(None);
+    };
+    command_named(alloc, verb.as_str(), rest)
+}

@@ -1,0 +1,17 @@
+//! The grammar of the words behind the program's own name: which command they ask for.
+#![tactic(auto)]
+
+mod command;
+mod commands;
+mod numbers;
+mod options;
+mod params;
+mod places;
+mod quiet;
+
+pub use command::{Command, Pieces, Quiet, Run, Scan};
+pub use commands::{command_of, quiet_of};
+pub use options::{Crew, DieKind, Setup};
+
+#[cfg(test)]
+mod tests;

@@ -1,0 +1,49 @@
+//! Words in the places of names and sizes.
+ghost use Rattle.std.specs.Prelude.{◌≡◌, IfOk};
+ghost use Rattle.command_words.specs.Places.{is_file_word, are_two, are_files, drive_of, width_of};
+
+use crate::numbers::number_in;
+use edge_io::Text;
+use page_base::Geometry;
+use std::alloc::{AllocError, Global};
+
+pub fn is_file_word(word: &str) -> bool
+    ensures { result ≡ is_file_word word.now }
+{
+    !word.is_empty() && !word.as_bytes().starts_with(b"--")
+}
+
+#[tactic(auto, unfolding(crate::specs::Places::are_two))]
+pub fn are_two(first: &str, second: &str) -> bool
+    ensures { result ≡ are_two first.now second.now }
+{
+    is_file_word(first) && is_file_word(second)
+}
+
+#[tactic(auto, unfolding(crate::specs::Places::are_files))]
+pub fn are_files(first: &str, second: &str, third: &str) -> bool
+    ensures { result ≡ are_files first.now second.now third.now }
+{
+    is_file_word(first) && is_file_word(second) && is_file_word(third)
+}
+
+pub fn text(alloc: Global, word: &str) -> Result<Text, AllocError>
+    ensures { IfOk result (λ text. text ≡ word.now) }
+{
+    Ok(Text::new(String::from_str(alloc, word)?))
+}
+
+#[tactic(auto, unfolding(crate::specs::Places::drive_of))]
+pub fn drive_of(blocks: &[u8], dies: &[u8]) -> Option<Geometry>
+    ensures { result ≡ drive_of blocks.now dies.now }
+{
+    let blocks = number_in(1, 65536, blocks)?;
+    let dies = number_in(1, 16, dies)?;
+    Geometry::new(blocks, dies)
+}
+
+pub fn width_of(word: &str) -> Option<u32>
+    ensures { result ≡ width_of word.now }
+{
+    number_in(1, 4096, word.as_bytes())
+}
