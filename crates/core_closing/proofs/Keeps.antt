@@ -277,3 +277,6 @@ all_kept encode c d es of h s none st all r =
           let below : n < meta_pages c.shape.blocks = subst (λ (z : Shape). n < meta_pages z.blocks) k.shape l in
           k.meta n (let q = st.all in omega arith) ∙ (all.meta n below ∙ sym (still_encodes encode c.closer c d of k n));
     }
+
+pub none_yet : (encode : Core → ℕ → Page) (c : Core) → c.closer ≡ 0 → IsStoredSoFar encode c
+none_yet encode c zero = record { meta = λ n l. absurd (omega arith); clean = λ l. absurd (omega arith) }

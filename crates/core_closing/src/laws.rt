@@ -22,6 +22,11 @@ pub fn closing_kept()
         IsStored c → IsAllStored encode c → CoreRun c es d → IsAllStored encode d }
 {}
 
+/// Before the closer has written a page of the meta data, there is none that is wrong.
+pub fn sync_begins()
+    ensures { (encode : Core → ℕ → Page) (c : Core) → c.closer ≡ 0 → IsStoredSoFar encode c }
+{}
+
 /// Once no block is unclean and the closer has written all pages of the meta data, each the core's, all is stored.
 pub fn sync_done()
     ensures { (encode : Core → ℕ → Page) (c : Core) → Coherent c → IsClosing c → IsStoredSoFar encode c → IsStored c → IsAllStored encode c }
