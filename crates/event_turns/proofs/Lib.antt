@@ -4,3 +4,4 @@ pub mod Numbering
 pub mod Answering
 pub mod Errands
 pub mod Nexts
+pub mod Waiting
