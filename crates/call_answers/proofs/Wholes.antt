@@ -10,7 +10,6 @@ use Rattle.core_state.specs.State.{Page}
 use Rattle.core_state.specs.PlainOf.{page_at}
 use Rattle.core_lemmas.proofs.Words.{less_or_not}
 use Rattle.core_outcomes.proofs.Bytes.{length_fn, get_fn}
-
 use Rattle.span_bytes.specs.Spans.{over}
 use Rattle.span_bytes.proofs.Pointwise.{in_over, low_over, high_over}
 use Rattle.call_answers.specs.Ends.{put_length}
