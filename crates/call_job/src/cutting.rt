@@ -59,7 +59,6 @@ fn cut_bytes(
 }
 
 impl Job {
-    #[tactic(none)]
     /// What a `trunc` ends with, once its page is gathered, on a file of this length, where all files have so many pages and the drive so many
     /// blocks. The page of its span is then the one that its file gets; where the files don't fit, it is as it was. Takes no memory.
     pub fn finish_cutting(&mut self, len: u32, in_use: u64, capacity: u32) -> Finished

@@ -53,7 +53,6 @@ fn append_at(reach: &Reach, n: usize, len: u32) -> u64
 }
 
 impl Job {
-    #[tactic(none)]
     /// What a `write` or an `append` ends with, once its pages are gathered, on a file of this length, where all files have so many pages and
     /// the drive so many blocks. The pages of its span are then those that its file gets; where they don't fit, they are as they were.
     /// Takes no memory.
