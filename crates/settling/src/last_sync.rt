@@ -5,7 +5,7 @@ ghost use Rattle.turn_cell.specs.Steps.{IsWorn};
 ghost use Rattle.core_state.specs.declared.actor.Actor.TheVariants.{Closer};
 ghost use Rattle.system_state.specs.Cores.{core_of};
 ghost use Rattle.desk_turns.specs.Passing.{ActsFor, core_seen, Does};
-ghost use Rattle.flushes.specs.Books.{opening_in};
+ghost use Rattle.lambda_system.specs.Books.{opening_in};
 ghost use Rattle.core_closing.specs.Kept.{MaySettle};
 ghost use Rattle.settling.specs.Settle.{SettleSays};
 
