@@ -6,13 +6,15 @@ use Rattle.std.specs.Option.{option_map}
 use Rattle.std.proofs.lemmas.Bool.Decides.{nat_tests}
 use Rattle.plain_files.specs.declared.calls.Call.{Call}
 use Rattle.plain_files.specs.declared.calls.Request.{Request}
-use Rattle.call_text.specs.declared.script.Lane.{Lane}
+use Rattle.script_words.specs.declared.script.Lane.{Lane}
 use Rattle.call_text.specs.declared.building.Await.{Await}
 use Rattle.sbpf_text.specs.Numbers.{decimal_number}
-use Rattle.call_text.specs.Words.{within, number_in}
-use Rattle.call_text.specs.Awaits.{place_of, awaited, is_await_of, await_of, without_await, lane_part, number_part}
+use Rattle.script_words.specs.Words.{within, number_in}
+use Rattle.script_words.specs.Lanes.{place_of, lane_part, number_part}
+use Rattle.call_text.specs.Awaits.{awaited, is_await_of, await_of, without_await}
 use Rattle.call_text.specs.Scripts.{with_request, with_lane}
-use Rattle.call_text.specs.Order.{requests_by_lane, HasEnded}
+use Rattle.script_words.specs.Lanes.{requests_by_lane}
+use Rattle.call_text.specs.Order.{HasEnded}
 use Rattle.call_text.specs.Building.{AreFor, AreCalls, FitsLane, HasRoom}
 use Rattle.call_text.proofs.Orders.{grown, extended, awaited-extended, in_order-with_lane, awaited-with_lane, count_in-le-length, count_in-grows, all_counted, count_at}
 use Rattle.call_text.proofs.Names.{distinct-with_request, distinct-with_lane, few-with_request, few-with_lane}

@@ -10,11 +10,12 @@ use Rattle.call_text.specs.declared.verb.Verb.{Verb}
 use Rattle.call_text.specs.Blocks.{Block}
 use Rattle.call_text.specs.Calls.{call_of}
 use Rattle.plain_files.specs.declared.calls.Call.{Call}
-use Rattle.call_text.specs.declared.script.Lane.{Lane}
+use Rattle.script_words.specs.declared.script.Lane.{Lane}
 use Rattle.call_text.specs.declared.building.Await.{Await}
 use Rattle.call_text.specs.declared.building.Building.{Building}
-use Rattle.call_text.specs.Words.{is_lane}
-use Rattle.call_text.specs.Awaits.{awaited, place_of, has_lane, await_of, without_await}
+use Rattle.script_words.specs.Words.{is_lane}
+use Rattle.script_words.specs.Lanes.{place_of, has_lane}
+use Rattle.call_text.specs.Awaits.{awaited, await_of, without_await}
 use Rattle.call_text.specs.Limits.{has_call}
 use Rattle.call_text.specs.Scripts.{with_request, with_lane, behind_lane}
 use Rattle.call_text.specs.Order.{HasEnded}

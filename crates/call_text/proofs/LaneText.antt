@@ -4,7 +4,7 @@ use Rattle.std.specs.List.{list_all}
 use Rattle.std.specs.Str.{IsAscii, IsUtf8}
 use Rattle.std.proofs.lemmas.Bool.Decides.{nat_tests}
 use Rattle.std.proofs.lemmas.Str.{IsUtf8-from_ascii}
-use Rattle.call_text.specs.Words.{is_lane_byte, is_lane}
+use Rattle.script_words.specs.Words.{is_lane_byte, is_lane}
 
 below_128 : (b : ℕ) → is_lane_byte b ≡ true → b < 128
 below_128 b h = grind (arith, nat_tests)

@@ -1,10 +1,9 @@
-pub mod Cuts
 pub mod LaneText
 pub mod LanePlaces
 pub mod Orders
 pub mod Names
 pub mod Kept
 pub mod BlockLaws
-pub mod HexSizes
 pub mod KeptSteps
 pub mod Later
+pub mod FirstWords

@@ -3,10 +3,10 @@ use Rattle.std.proofs.Common.{◌≡◌, ◌⊎◌, inl, inr, ℕ, ◌+◌, ◌�
 use Rattle.std.specs.List.{IsDistinct, AllByRecursion}
 use Rattle.std.proofs.lemmas.Bool.{le-ltb}
 use Rattle.plain_files.specs.declared.calls.Request.{Request}
-use Rattle.call_text.specs.declared.script.Lane.{Lane}
-use Rattle.call_text.specs.Awaits.{place_of}
+use Rattle.script_words.specs.declared.script.Lane.{Lane}
+use Rattle.script_words.specs.Lanes.{place_of}
 use Rattle.call_text.specs.Scripts.{with_request, with_lane}
-use Rattle.call_text.specs.Order.{lane_names}
+use Rattle.script_words.specs.Lanes.{lane_names}
 use Rattle.call_text.specs.Building.{FitsLane}
 
 -- another name is not among the names

@@ -6,10 +6,11 @@ use Rattle.std.proofs.lemmas.List.{append-nil}
 use Rattle.plain_files.specs.declared.calls.Request.{Request}
 use Rattle.plain_files.specs.declared.calls.Call.TheVariants.{Sync}
 use Rattle.plain_files.specs.History.{requests_of}
-use Rattle.call_text.specs.declared.script.Lane.{Lane}
-use Rattle.call_text.specs.Awaits.{place_of}
+use Rattle.script_words.specs.declared.script.Lane.{Lane}
+use Rattle.script_words.specs.Lanes.{place_of}
 use Rattle.call_text.specs.Scripts.{with_request, with_lane}
-use Rattle.call_text.specs.Order.{requests_by_lane, count_in, InOrder, HasEnded, Awaited}
+use Rattle.script_words.specs.Lanes.{requests_by_lane}
+use Rattle.call_text.specs.Order.{count_in, InOrder, HasEnded, Awaited}
 
 -- one place more
 pub count_in-push : (lane : ℕ) (before : List (ℕ × ℕ)) (place : ℕ × ℕ) → count_in lane (before ++ place ∷ []) ≡ cond (eqb place.0 lane) (count_in lane before + 1) (count_in lane before)

@@ -1,11 +1,11 @@
 -- The blocks of a script: code in assembler text, under a name. It is this project's own.
-use Rattle.std.specs.Prelude.{ℕ, ◌+◌, List, [], ◌∷◌, Bool, ◌&&◌, if◌then◌else◌, codes, bytes_eq, Option, Some, None, Result, Ok, Err}
+use Rattle.std.specs.Prelude.{ℕ, ◌+◌, List, [], ◌∷◌, Bool, false, if◌then◌else◌, codes, bytes_eq, Option, Some, None, Result, Ok, Err}
 use Rattle.std.specs.List.{flat_map}
 use Rattle.sbpf_insn.specs.declared.insn.Insn.{Insn}
 use Rattle.sbpf_insn.specs.Table.{spelling}
 use Rattle.sbpf_text.specs.declared.fault.AsmFault.{AsmFault}
 use Rattle.sbpf_text.specs.Asm.{asm}
-use Rattle.sbpf_text.specs.Lexing.{first_word, behind_word, has_no_word}
+use Rattle.script_words.specs.Words.{words, first_of}
 use Rattle.call_text.specs.declared.faults.ScriptErr.{ScriptErr}
 use Rattle.call_text.specs.declared.faults.ScriptErr.TheVariants.{Asm}
 
@@ -21,11 +21,16 @@ block_of name (block ∷ blocks) = if bytes_eq name block.name then Some block.c
 
 -- a line whose first word is `func`
 abbrev pub begins_block : List ℕ → Bool
-begins_block line = bytes_eq (first_word line) (codes "func")
+begins_block line = bytes_eq (first_of (words line)) (codes "func")
+
+-- one word alone, and it is `end`
+abbrev pub is_end : List (List ℕ) → Bool
+is_end (word ∷ []) = bytes_eq word (codes "end")
+is_end _ = false
 
 -- a line whose only word is `end`
 abbrev pub ends_block : List ℕ → Bool
-ends_block line = bytes_eq (first_word line) (codes "end") && has_no_word (behind_word line)
+ends_block line = is_end (words line)
 
 -- the bytes of code that was assembled, or its fault, of which line 1 is the script's line behind `line`
 abbrev pub code_at : ℕ → Result (List Insn) AsmFault → Result (List ℕ) ScriptErr

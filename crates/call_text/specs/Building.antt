@@ -1,15 +1,15 @@
 -- A script that is being read, and what its reader knows.
-use Rattle.std.specs.Prelude.{◌≡◌, ℕ, ◌+◌, ◌≤◌, ◌<◌, List, [], ◌∷◌, ◌++◌, length, take, drop, slice_get, bytes_eq, Some, None, IfSome, IsTrue, false}
+use Rattle.std.specs.Prelude.{◌≡◌, ℕ, ◌≤◌, ◌<◌, List, [], ◌∷◌, length, bytes_eq, Some, None, IfSome, IsTrue, false}
 use Rattle.std.specs.List.{IsDistinct}
-use Rattle.plain_files.specs.declared.calls.Request.{Request}
-use Rattle.call_text.specs.declared.script.Lane.{Lane}
+use Rattle.script_words.specs.declared.script.Lane.{Lane}
 use Rattle.call_text.specs.declared.building.Await.{Await}
 use Rattle.call_text.specs.declared.building.Building.{Building}
 use Rattle.call_text.specs.Blocks.{Block, block_of}
-use Rattle.call_text.specs.Awaits.{place_of, has_lane}
-use Rattle.call_text.specs.Words.{is_lane}
-use Rattle.call_text.specs.Scripts.{Reading, with_request, with_lane, is_lane_past_limit}
-use Rattle.call_text.specs.Order.{requests_by_lane, lane_names, InOrder, Awaited, HasEnded}
+use Rattle.script_words.specs.Lanes.{place_of, has_lane}
+use Rattle.script_words.specs.Words.{is_lane}
+use Rattle.call_text.specs.Scripts.{Reading, is_lane_past_limit}
+use Rattle.script_words.specs.Lanes.{requests_by_lane, lane_names}
+use Rattle.call_text.specs.Order.{InOrder, Awaited, HasEnded}
 
 -- what is read so far
 abbrev pub seen : Building → Reading
@@ -66,14 +66,3 @@ pub record FitsLane (name : List ℕ) (lanes : List Lane) : Type 0 where
 -- the line of a well formed lane breaks no limit
 abbrev pub FitsLine : Building → List ℕ → List (List ℕ) → Type 0
 FitsLine b name rest = IsTrue (is_lane name) → is_lane_past_limit (seen b) (Some name) rest ≡ false
-
--- where the lane of a name stands, or comes
-pub record IsLanePlace (name : List ℕ) (lanes : List Lane) (place : ℕ × ℕ) : Type 0 where
-  pub is : place ≡ place_of name 0 lanes
-  pub within : place.0 ≤ length lanes
-  pub new : length lanes ≤ place.0 → (r : Request) →
-      with_request name r lanes ≡ lanes ++ record { name = name; requests = r ∷ [] } ∷ []
-  pub new_lane : length lanes ≤ place.0 → with_lane name lanes ≡ lanes ++ record { name = name; requests = [] } ∷ []
-  pub old : (r : Request) (lane : Lane) → slice_get lanes place.0 ≡ Some lane →
-      with_request name r lanes ≡ take place.0 lanes ++ record lane { requests = lane.requests ++ r ∷ [] } ∷ drop (place.0 + 1) lanes
-  pub old_lane : place.0 < length lanes → with_lane name lanes ≡ lanes

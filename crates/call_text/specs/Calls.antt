@@ -8,7 +8,7 @@ use Rattle.call_text.specs.declared.faults.ScriptKind.{ScriptKind}
 use Rattle.call_text.specs.declared.faults.ScriptKind.TheVariants as kind
 use Rattle.call_text.specs.declared.verb.Verb.{Verb}
 use Rattle.call_text.specs.declared.verb.Verb.TheVariants as verb
-use Rattle.call_text.specs.Words.{number_in, bytes_of, code_of}
+use Rattle.script_words.specs.Words.{number_in, bytes_of, code_of}
 use Rattle.call_text.specs.Blocks.{Block, block_of}
 
 -- the first word of a call

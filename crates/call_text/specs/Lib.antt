@@ -1,4 +1,3 @@
-pub mod Words
 pub mod Blocks
 pub mod Calls
 pub mod Limits
@@ -7,6 +6,3 @@ pub mod Scripts
 pub mod Order
 pub mod Building
 pub mod Outcomes
-pub mod Print
-pub mod Transcripts
-pub mod Found

@@ -2,7 +2,7 @@
 use Rattle.std.specs.Prelude.{ℕ, ◌+◌, List, [], ◌∷◌, Bool, false, if◌then◌else◌, codes, bytes_eq, Option, Some, None, is_some}
 use Rattle.call_text.specs.declared.verb.Verb.{Verb}
 use Rattle.call_text.specs.declared.verb.Verb.TheVariants as verb
-use Rattle.call_text.specs.Words.{bytes_size, code_size, size, lane_of}
+use Rattle.script_words.specs.Words.{bytes_size, code_size, size, lane_of}
 use Rattle.call_text.specs.Blocks.{Block, block_of}
 use Rattle.call_text.specs.Calls.{verb_of}
 

@@ -1,25 +1,11 @@
 -- The order of a script's calls: it has each call of each lane once, in the order of its lane and behind the call that it
 -- awaits. It is this project's own.
-use Rattle.std.specs.Prelude.{◌≡◌, ℕ, ◌+◌, ◌≤◌, List, [], ◌∷◌, ◌++◌, length, map, bytes_eq, ◌==◌, if◌then◌else◌, Some, slice_get, IfSome}
+use Rattle.std.specs.Prelude.{◌≡◌, ℕ, ◌+◌, ◌≤◌, List, [], ◌∷◌, ◌++◌, length, bytes_eq, ◌==◌, if◌then◌else◌, Some, slice_get, IfSome}
 use Rattle.std.specs.List.{IsDistinct}
 use Rattle.plain_files.specs.declared.calls.Request.{Request}
 use Rattle.plain_files.specs.History.{requests_of}
-use Rattle.call_text.specs.declared.script.Lane.{Lane}
-use Rattle.call_text.specs.declared.script.Script.{Script}
-
--- the requests of each lane
-abbrev pub requests_by_lane : List Lane → List (List Request)
-requests_by_lane lanes = map (λ lane. lane.requests) lanes
-
-abbrev pub requests : Script → List (List Request)
-requests s = requests_by_lane s.lanes
-
--- the names of the lanes
-abbrev pub lane_names : List Lane → List (List ℕ)
-lane_names lanes = map (λ lane. lane.name) lanes
-
-abbrev pub names : Script → List (List ℕ)
-names s = lane_names s.lanes
+use Rattle.script_words.specs.declared.script.Script.{Script}
+use Rattle.script_words.specs.Lanes.{requests, names}
 
 -- how many of some places are in a lane
 abbrev pub count_in : ℕ → List (ℕ × ℕ) → ℕ

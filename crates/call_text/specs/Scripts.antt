@@ -11,15 +11,16 @@ use Rattle.call_text.specs.declared.faults.ScriptKind.{ScriptKind}
 use Rattle.call_text.specs.declared.faults.ScriptKind.TheVariants as kind
 use Rattle.call_text.specs.declared.faults.ScriptErr.{ScriptErr}
 use Rattle.call_text.specs.declared.faults.ScriptErr.TheVariants as refusal
-use Rattle.call_text.specs.declared.script.Lane.{Lane}
-use Rattle.call_text.specs.declared.script.FaultLine.{FaultLine}
-use Rattle.call_text.specs.declared.script.Script.{Script}
+use Rattle.script_words.specs.declared.script.Lane.{Lane}
+use Rattle.script_words.specs.declared.script.FaultLine.{FaultLine}
+use Rattle.script_words.specs.declared.script.Script.{Script}
 use Rattle.call_text.specs.declared.building.Await.{Await}
-use Rattle.call_text.specs.Words.{words, number_in, is_lane, lane_of}
+use Rattle.script_words.specs.Words.{words, number_in, is_lane, lane_of}
 use Rattle.call_text.specs.Blocks.{Block, block_of, ends_block, assembled}
 use Rattle.call_text.specs.Calls.{verb_of, or_fault, call_of}
 use Rattle.call_text.specs.Limits.{has_call, bytes_behind, line_bytes}
-use Rattle.call_text.specs.Awaits.{place_of, has_lane, awaited, await_of, without_await, is_called_later}
+use Rattle.script_words.specs.Lanes.{place_of, has_lane}
+use Rattle.call_text.specs.Awaits.{awaited, await_of, without_await, is_called_later}
 
 -- ---- what is read so far
 

@@ -1,43 +1,14 @@
 //! The calls that lanes wait for.
-ghost use Rattle.std.specs.Prelude.{◌≡◌, ◌≤◌, IfOk, false, length, map};
-ghost use Rattle.std.specs.List.{position, position_or_len};
-ghost use Rattle.call_text.specs.Awaits.{is_point, lane_part, number_part, awaited, is_await_of, await_of, without_await, is_call_of, is_called_later};
+ghost use Rattle.std.specs.Prelude.{◌≡◌, IfOk, false, map};
+ghost use Rattle.script_words.specs.Lanes.{lane_part, number_part};
+ghost use Rattle.call_text.specs.Awaits.{awaited, is_await_of, await_of, without_await, is_call_of, is_called_later};
 ghost use Rattle.call_text.specs.Building.{HasRoom};
 
 use crate::blocks::{begins_block, ends_block};
 use crate::building::Await;
-use crate::lanes::place_of;
-use crate::lexing::{cut_word, ends_with_colon, without_last};
-use crate::script::Lane;
-use crate::values::number_in;
 use crate::verb::verb_of;
+use script_words::{Lane, cut_point, cut_word, ends_with_colon, number_in, place_of, without_last};
 use std::alloc::{AllocError, Global};
-
-fn find_point(word: &[u8]) -> Option<usize>
-    ensures { result ≡ position is_point word.now }
-{
-    word.iter().position(|b| *b == b'.')
-}
-
-#[tactic(auto, using(crate::proofs::Cuts::position_or))]
-fn point_at(word: &[u8]) -> usize
-    ensures is { result ≡ position_or_len is_point word.now }
-    ensures within { result ≤ length word.now }
-{
-    find_point(word).unwrap_or(word.len())
-}
-
-// What stands ahead of the first point of a word, and what stands behind it.
-pub fn cut_point(word: &[u8]) -> (&[u8], &[u8])
-    ensures lane { result.0.now ≡ lane_part word.now }
-    ensures number { result.1.now ≡ number_part word.now }
-{
-    let at = point_at(word);
-    if at == word.len() {
-        return (word, &[]);
-    }
-    (&word[..at], &word[at + 1..])
-}
 
 // The call of a word `L.K`, where lane L has a K-th call.
 #[tactic(auto, unfolding(crate::specs::Awaits::awaited))]

@@ -5,11 +5,11 @@ ghost use Rattle.call_text.specs.Blocks.{block_of, begins_block, ends_block, ass
 ghost use Rattle.call_text.specs.Outcomes.{Reads};
 
 use crate::faults::ScriptErr;
-use crate::lexing::{cut_word, has_no_word};
 use edge_io::Bytes;
 use indexmap::IndexMap;
 use sbpf_insn::encode;
 use sbpf_text::{AsmFault, TextErr, assemble_bytes};
+use script_words::cut_word;
 use std::alloc::{AllocError, Global};
 use std::marker::Model;
 
@@ -71,7 +71,7 @@ pub fn ends_block(line: &[u8]) -> bool
     ensures { result ≡ ends_block line.now }
 {
     let (first, rest) = cut_word(line);
-    first == b"end".as_slice() && has_no_word(rest)
+    first == b"end".as_slice() && cut_word(rest).0.is_empty()
 }
 
 // Whether a block ends on one of the lines.

@@ -1,8 +1,6 @@
 //! A script of which some lines are read.
 use crate::blocks::Blocks;
-use crate::script::{FaultLine, Lane, Script};
-use edge_io::Listed;
-use std::alloc::Global;
+use script_words::{FaultLine, Lane};
 
 // The call that the next call of a lane waits for.
 #[derive(Clone, Copy)]

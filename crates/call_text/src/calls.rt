@@ -5,10 +5,10 @@ ghost use Rattle.call_text.specs.Outcomes.{Gives};
 
 use crate::blocks::Blocks;
 use crate::faults::{LineErr, ScriptKind};
-use crate::values::{bytes_of, code_of, number_in};
 use crate::verb::Verb;
 use edge_io::Bytes;
 use plain_files::{Call, Word};
+use script_words::{bytes_of, code_of, number_in};
 use std::alloc::Global;
 
 // A word in a name's place.

@@ -6,8 +6,7 @@ ghost use Rattle.call_text.specs.Outcomes.{Gives, Makes};
 
 use crate::building::Building;
 use crate::faults::{LineErr, ScriptKind};
-use crate::script::FaultLine;
-use crate::values::number_in;
+use script_words::{FaultLine, number_in};
 
 // Which of two words stands there.
 #[tactic(auto, unfolding(crate::specs::Scripts::one_of))]

@@ -1,27 +1,15 @@
 //! The lanes of a script that is being read.
 ghost use Rattle.std.specs.Prelude.{◌≡◌, ◌∷◌, [], IsTrue, OnOk, IfOk, IfErr};
-ghost use Rattle.call_text.specs.Words.{is_lane};
+ghost use Rattle.script_words.specs.Words.{is_lane};
 ghost use Rattle.call_text.specs.Scripts.{with_request, with_lane};
-ghost use Rattle.call_text.specs.Building.{IsLanePlace};
+ghost use Rattle.script_words.specs.Lanes.{place_of};
 
 use crate::faults::LineErr;
-use crate::script::Lane;
 use edge_io::{Listed, Text};
 use plain_files::Request;
+use script_words::Lane;
 use std::alloc::Global;
 use std::str;
-
-// Which lane has a name, and how many requests it has.
-pub fn place_of(lanes: &[Lane], name: &[u8]) -> (usize, usize)
-    ensures { IsLanePlace name.now lanes.now result }
-{
-    for (i, lane) in lanes.iter().enumerate() {
-        if lane.name.as_str().as_bytes() == name {
-            return (i, lane.requests.len());
-        }
-    }
-    (lanes.len(), 0)
-}
 
 // A lane without requests.
 fn new_lane(alloc: Global, name: &[u8]) -> Result<Lane, LineErr>
@@ -38,6 +26,7 @@ fn new_lane(alloc: Global, name: &[u8]) -> Result<Lane, LineErr>
 }
 
 // Adds a request to the lane of a name.
+#[tactic(auto, using(crate::proofs::LanePlaces::put_new))]
 pub fn put_request(
     alloc: Global,
     lanes: &mut Vec<Lane>,
@@ -46,7 +35,7 @@ pub fn put_request(
     request: Request,
 ) -> Result<(), LineErr>
     requires form { IsTrue (is_lane name.now) }
-    requires place { IsLanePlace name.now lanes.old.items place }
+    requires place { place ≡ place_of name.now 0 lanes.old.items }
     ensures ok { OnOk result (lanes.new.items ≡ with_request name.now request lanes.old.items) }
     ensures err { IfErr result (λ e. e ≡ LineErr.NoMemory) }
 {
@@ -62,6 +51,7 @@ pub fn put_request(
 }
 
 // Adds the lane of a name, where it is new.
+#[tactic(auto, using(crate::proofs::LanePlaces::lane_new, crate::proofs::LanePlaces::lane_old))]
 pub fn put_lane(
     alloc: Global,
     lanes: &mut Vec<Lane>,
@@ -69,7 +59,7 @@ pub fn put_lane(
     name: &[u8],
 ) -> Result<(), LineErr>
     requires form { IsTrue (is_lane name.now) }
-    requires place { IsLanePlace name.now lanes.old.items place }
+    requires place { place ≡ place_of name.now 0 lanes.old.items }
     ensures ok { OnOk result (lanes.new.items ≡ with_lane name.now lanes.old.items) }
     ensures err { IfErr result (λ e. e ≡ LineErr.NoMemory) }
 {

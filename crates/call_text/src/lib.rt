@@ -1,4 +1,4 @@
-//! Scripts of calls as text, and transcripts: their lines, printed and read.
+//! Scripts of calls as text: a script is read, or its first fault is named.
 #![tactic(auto)]
 
 mod awaits;
@@ -8,22 +8,11 @@ mod calls;
 mod fault_lines;
 mod faults;
 mod lanes;
-mod lexing;
 mod limits;
-mod printing;
 mod reading;
-mod replies;
-mod script;
 #[cfg(test)]
 mod tests;
-mod transcript;
-mod transcript_reading;
-mod values;
 mod verb;
 
 pub use faults::{ScriptErr, ScriptFault, ScriptKind};
-pub use printing::{places_line, reply_line, reply_text};
 pub use reading::read_script;
-pub use script::{FaultLine, Lane, Script};
-pub use transcript::{Transcript, TranscriptErr};
-pub use transcript_reading::read_transcript;

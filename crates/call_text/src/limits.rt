@@ -1,15 +1,14 @@
 //! What a line counts against the limits of a script.
 ghost use Rattle.std.specs.Prelude.{◌≡◌, ◌≤◌, ◌^◌, ◌&&◌, not, nat_le, length, map, option_copied};
-ghost use Rattle.call_text.specs.Awaits.{has_lane};
+ghost use Rattle.script_words.specs.Lanes.{has_lane};
 ghost use Rattle.call_text.specs.Limits.{has_call, write_bytes, append_bytes, load_bytes, readl_bytes, writel_bytes, call_bytes, bytes_behind, lane_bytes, line_bytes};
 ghost use Rattle.call_text.specs.Scripts.{is_lane_past_limit, is_past_limit};
 ghost use Rattle.call_text.specs.Building.{seen};
 
 use crate::blocks::Blocks;
 use crate::building::Building;
-use crate::lanes::place_of;
-use crate::values::{bytes_size, code_size, lane_of};
 use crate::verb::{Verb, verb_of};
+use script_words::{bytes_size, code_size, lane_of, place_of};
 
 /// The most lanes of a script.
 const MOST_LANES: usize = 32;

@@ -2,8 +2,9 @@
 ghost use Rattle.std.specs.Prelude.{◌≡◌, ◌+◌, ◌≤◌, ◌<◌, ◌^◌, ◌∷◌, [], length, map, is_some, IsTrue, IsOk, OnOk, IfOk, false, None, Some, Ok, Result};
 ghost use Rattle.call_text.specs.declared.faults.ScriptKind.{ScriptKind};
 ghost use Rattle.call_text.specs.declared.building.Building.{Building};
-ghost use Rattle.call_text.specs.Words.{is_lane};
-ghost use Rattle.call_text.specs.Awaits.{place_of, await_of};
+ghost use Rattle.script_words.specs.Words.{is_lane};
+ghost use Rattle.script_words.specs.Lanes.{place_of};
+ghost use Rattle.call_text.specs.Awaits.{await_of};
 ghost use Rattle.call_text.specs.Calls.{verb_of, call_of};
 ghost use Rattle.call_text.specs.Scripts.{with_call, with_await, behind_lane, call_line, await_line, lane_line, fault_line, func_line, body_line, end_line, is_comment, word_line, is_past_limit, outside_line, line_in, nothing, read_lines, read_script, at_line, Reading};
 ghost use Rattle.call_text.specs.Building.{seen, IsKept, FitsLane, FitsLine};
@@ -16,15 +17,15 @@ use crate::building::{Await, Building};
 use crate::calls::call_of;
 use crate::fault_lines::fault_line;
 use crate::faults::{LineErr, ScriptErr, ScriptFault, ScriptKind};
-use crate::lanes::{place_of, put_lane, put_request};
-use crate::lexing::{ends_with_colon, is_line, lines, without_last, words};
+use crate::lanes::{put_lane, put_request};
 use crate::limits::{is_past_limit, line_bytes};
-use crate::script::Script;
-use crate::values::is_lane;
 use crate::verb::verb_of;
 use edge_io::Listed;
 use name_table::Name;
 use plain_files::{Call, Request};
+use script_words::{
+    Script, ends_with_colon, is_lane, is_line, lines, place_of, without_last, words,
+};
 use std::alloc::Global;
 
 /// The bytes of the longest script, 16 MiB.

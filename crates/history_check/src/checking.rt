@@ -1,16 +1,17 @@
 //! A transcript is held against the plain machine, entry by entry.
 ghost use Rattle.std.specs.Prelude.{◌≡◌, ◌<◌, ◌+◌, ◌^◌, ℕ, List, [], map, length, replicate, slice_set, option_copied, IfOk, IsSome};
-ghost use Rattle.call_text.specs.Order.{requests};
+ghost use Rattle.script_words.specs.Lanes.{requests};
 ghost use Rattle.history_check.specs.Held.{count_of, IsHeld, IsLegal};
 ghost use Rattle.history_check.specs.Verdicts.{has_come, next_request, are_all_made, verdict};
 ghost use Rattle.history_check.specs.Histories.{IsHistory};
 
 use crate::replies::{is_excuse, is_same_reply};
 use crate::verdict::Verdict;
-use call_text::{Lane, Script, Transcript};
 use plain_files::{Call, Reply, Request};
 use plain_run::Plain;
+use script_words::{Lane, Script};
 use std::alloc::{AllocError, Global};
+use transcript_text::Transcript;
 
 // How many calls of a lane were made. A lane that isn't there has none.
 fn count_of(counts: &[u32], lane: usize) -> u32

@@ -1,9 +1,10 @@
 use crate::{Verdict, check_history};
-use call_text::{read_script, read_transcript};
+use call_text::read_script;
 use plain_files::Reply;
 use plain_run::Plain;
 use std::alloc::Global;
 use std::test::Fail;
+use transcript_text::read_transcript;
 
 const SCRIPT: &[u8] =
     b"a: create f\na: append f text:ab\nb: await a.2\nb: append f text:c\nb: stat f\n";

@@ -1,5 +1,5 @@
 use Rattle.std.proofs.Common.{◌≡◌, ap, ◌∙◌}
-use Rattle.call_text.specs.Awaits.{place_of}
+use Rattle.script_words.specs.Lanes.{place_of}
 use Rattle.call_text.proofs.KeptSteps.{kept_await}
 use Rattle.call_text.proofs.reading.add_await.Goals as goal
 

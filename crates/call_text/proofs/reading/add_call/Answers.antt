@@ -1,5 +1,6 @@
 use Rattle.std.proofs.Common.{◌≡◌, ℕ, ap, ◌∙◌, arith}
-use Rattle.call_text.specs.Awaits.{place_of, await_of, without_await}
+use Rattle.script_words.specs.Lanes.{place_of}
+use Rattle.call_text.specs.Awaits.{await_of, without_await}
 use Rattle.call_text.proofs.Kept.{HasRoom-calls}
 use Rattle.call_text.proofs.KeptSteps.{kept_call}
 use Rattle.call_text.proofs.reading.add_call.Goals as goal

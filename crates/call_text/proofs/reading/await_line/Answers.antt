@@ -1,5 +1,5 @@
 use Rattle.std.proofs.Common.{List, sym, subst}
-use Rattle.call_text.specs.declared.script.Lane.{Lane}
+use Rattle.script_words.specs.declared.script.Lane.{Lane}
 use Rattle.call_text.specs.Building.{HasRoom}
 use Rattle.call_text.proofs.Kept.{HasRoom-calls}
 use Rattle.call_text.proofs.KeptSteps.{ended_at}

@@ -2,8 +2,8 @@ use Rattle.std.proofs.Common.{◌≡◌, ◌<◌, ℕ, ◌+◌, List, [], length
 use Rattle.std.proofs.lemmas.List.{length-map, length-replicate}
 use Rattle.plain_files.specs.declared.calls.Reply.{Reply}
 use Rattle.plain_files.specs.declared.calls.Request.{Request}
-use Rattle.call_text.specs.Order.{requests}
-use Rattle.call_text.specs.declared.script.Lane.{Lane}
+use Rattle.script_words.specs.Lanes.{requests}
+use Rattle.script_words.specs.declared.script.Lane.{Lane}
 use Rattle.history_check.specs.declared.verdict.Verdict.TheVariants.{Legal, Order}
 use Rattle.history_check.specs.Held.{count_of, IsHeld}
 use Rattle.history_check.specs.Histories.{IsHistory}

@@ -1,4 +1,4 @@
-use Rattle.call_text.specs.Order.{requests}
+use Rattle.script_words.specs.Lanes.{requests}
 use Rattle.history_check.proofs.Counts.{IsSoFar}
 use Rattle.history_check.proofs.checking.check_history.Given as goal
 
