@@ -23,10 +23,10 @@ fn elf_refusal(e: ElfErr) -> Refusal
     }
 }
 
-fn extracted(alloc: Global, out: &Text, bytes: &[u8], section: &[u8]) -> Result<Plan, Refusal>
+fn extracted(alloc: Global, out: &Text, bytes: &[u8], section: &Text) -> Result<Plan, Refusal>
     ensures { IsFinished (extracted out.now (elf_code bytes.now section.now)) result }
 {
-    match read_elf(alloc, bytes, section) {
+    match read_elf(alloc, bytes, section.as_str().as_bytes()) {
         Ok(code) => Ok(Plan::of(object_acts(alloc, out, &code)?)),
         Err(e) => Err(elf_refusal(e)),
     }
@@ -45,5 +45,5 @@ pub fn elf<R: Room>(
     ensures later { R.faults room.old ≤ R.faults room.new }
 {
     let bytes = read_named(alloc, room, object)?;
-    extracted(alloc, out, &bytes, section.as_str().as_bytes())
+    extracted(alloc, out, &bytes, section)
 }
