@@ -13,10 +13,9 @@ use Rattle.image_format.specs.Tails.{shares}
 use Rattle.image_format.specs.Image.{File, Mounted, mounts_to}
 use Rattle.image_format.specs.Encoding.{fill, record_bytes, header_part, record_part, entry_part, bits_part, meta_bytes, image_bytes}
 use Rattle.image_format.specs.Tables.{stored_of, stored_files, blocks_in, placed_of, pages_of, pages_from, IsOneSize}
-use Rattle.image_format.specs.Whole.{goes_on, stands_for, IsWhole, IsValid}
+use Rattle.image_format.specs.Whole.{goes_on, stands_for, IsWhole, IsValid, Remounts}
 use Rattle.image_format.proofs.Areas.{length_range, length_fill}
 use Rattle.image_format.proofs.Imaged.{meta_length}
-use Rattle.image_format.proofs.Remounting.{remounted}
 use Rattle.plain_files.specs.declared.calls.PlainFile.{PlainFile}
 use Rattle.plain_files.specs.Plain as plain
 use Rattle.plain_files.specs.Plain.{State}
@@ -145,6 +144,6 @@ pub valid : (drive : Drive) (s : State) (m : Meta) → Fits drive.blocks s → H
 valid drive s m fits has limits table sound =
     record { drive = subst (λ (d : Drive). IsDrive d.blocks d.dies) (sym has.geometry) limits; table = table; sound = sound; whole = pages_whole (data_of drive.blocks s.files) drive.blocks (data_length drive s fits) }
 
-pub mounts : (drive : Drive) (s : State) (m : Meta) → Fits drive.blocks s → HasTables drive s m → IsDrive drive.blocks drive.dies → IsTable m.names → IsSound m.extents → mounts_to (image_with drive s) ≡ Ok (mounted_as s)
-mounts drive s m fits has limits table sound =
-    ap mounts_to (sym (image_is drive s m fits has)) ∙ remounted m (body_of drive s) (valid drive s m fits has limits table sound) (whole drive s m fits has) ∙ ap (λ x. Ok x) (stands drive s m fits has)
+pub mounts : Remounts → (drive : Drive) (s : State) (m : Meta) → Fits drive.blocks s → HasTables drive s m → IsDrive drive.blocks drive.dies → IsTable m.names → IsSound m.extents → mounts_to (image_with drive s) ≡ Ok (mounted_as s)
+mounts again drive s m fits has limits table sound =
+    ap mounts_to (sym (image_is drive s m fits has)) ∙ again m (body_of drive s) (valid drive s m fits has limits table sound) (whole drive s m fits has) ∙ ap (λ x. Ok x) (stands drive s m fits has)

@@ -14,7 +14,7 @@ use Rattle.image_format.specs.Numbers.{is_zero, first_set}
 use Rattle.image_format.specs.Header.{header, image_length}
 use Rattle.image_format.specs.Image.{Image, Mounted, mounted, read_image, mounts_to}
 use Rattle.image_format.specs.Encoding.{header_bytes, header_part, record_part, entry_part, bits_part, meta_bytes, image_bytes}
-use Rattle.image_format.specs.Whole.{IsWhole, IsValid}
+use Rattle.image_format.specs.Whole.{IsWhole, IsValid, Remounts}
 use Rattle.image_format.proofs.Areas.{length_flat}
 use Rattle.image_format.proofs.Steps.{ok_bind}
 use Rattle.image_format.proofs.Imaged.{meta_length}
@@ -82,11 +82,11 @@ loaded bytes h m head is =
     ok_bind (read_image bytes) i _ r.first
     ∙ ap (λ (g : Header). Ok (drive_with g.blocks g.dies (mounted i))) same ∙ ap (λ x. Ok (drive_with h.blocks h.dies x)) (same_ok _ _ r.rest)
 
-pub drawn : (drive : Drive) (s : State) (m : Meta) → Fits drive.blocks s → HasTables drive s m → IsDrive drive.blocks drive.dies → IsTable m.names → IsSound m.extents → drive_of (image_with drive s) ≡ Ok (record { geometry = drive; plain = without_functions s })
-drawn drive s m fits has limits table sound =
+pub drawn : Remounts → (drive : Drive) (s : State) (m : Meta) → Fits drive.blocks s → HasTables drive s m → IsDrive drive.blocks drive.dies → IsTable m.names → IsSound m.extents → drive_of (image_with drive s) ≡ Ok (record { geometry = drive; plain = without_functions s })
+drawn again drive s m fits has limits table sound =
     let ok = valid drive s m fits has limits table sound in
     let all = whole drive s m fits has in
     let head : header (image_with drive s) ≡ Ok (record { version = 2; blocks = m.geometry.blocks; dies = m.geometry.dies; next = m.names.next }) = ap header (sym (image_is drive s m fits has)) ∙ header_written m (body_of drive s) ok all in
-    loaded (image_with drive s) _ (mounted_as s) head (mounts drive s m fits has limits table sound)
+    loaded (image_with drive s) _ (mounted_as s) head (mounts again drive s m fits has limits table sound)
     ∙ ap (λ (d : Drive). Ok (drive_with d.blocks d.dies (mounted_as s))) has.geometry
     ∙ ap (λ x. Ok (record { geometry = drive; plain = x })) (same_machine drive.blocks s fits.capacity)

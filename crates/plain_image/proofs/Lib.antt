@@ -7,3 +7,4 @@ pub mod Readings
 pub mod Again
 pub mod Loaded
 pub mod Drawn
+pub mod Written

@@ -1,6 +1,7 @@
-//! A mounted drive.
+//! Drives as images have them.
 
-use page_base::Geometry;
+use image_format::Meta;
+use page_base::{Geometry, Page};
 use plain_run::Plain;
 
 /// A mounted drive: its sizes, and its files in a plain machine.
@@ -10,4 +11,15 @@ pub struct PlainDrive {
     pub geometry: Geometry,
     /// The machine that has its files.
     pub plain: Plain,
+}
+
+/// An image that was opened.
+#[derive(Drop)]
+pub struct OpenedImage {
+    /// The drive that it is of.
+    pub drive: PlainDrive,
+    /// Its meta data: files, places and written flags.
+    pub meta: Meta,
+    /// Its pages in order: those of the meta data, as version 2 has them, and then the data blocks.
+    pub pages: Vec<Page>,
 }

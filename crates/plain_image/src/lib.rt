@@ -7,8 +7,8 @@ mod loading;
 mod pages;
 mod storing;
 
-pub use drive::PlainDrive;
-pub use loading::load_image;
+pub use drive::{OpenedImage, PlainDrive};
+pub use loading::open_image;
 pub use storing::store_image;
 
 #[cfg(test)]

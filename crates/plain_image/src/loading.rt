@@ -4,16 +4,18 @@ ghost use Rattle.std.specs.List.{flat_map};
 ghost use Rattle.page_base.specs.Bytes.{Pages};
 ghost use Rattle.page_base.specs.Drive.{IsDrive};
 ghost use Rattle.image_format.specs.Faults.{Gives};
-ghost use Rattle.image_format.specs.Tables.{blocks_in};
+ghost use Rattle.image_format.specs.Image.{read_image};
+ghost use Rattle.image_format.specs.Tables.{Mounts, blocks_in};
 ghost use Rattle.image_format.specs.Whole.{content_of, stands_for};
 ghost use Rattle.plain_image.specs.Fits.{Fits};
 ghost use Rattle.plain_image.specs.Drives.{machine_on, drive_of};
 ghost use Rattle.plain_image.specs.Tables.{IsPlaced};
 
-use crate::drive::PlainDrive;
+use crate::drive::{OpenedImage, PlainDrive};
 use crate::pages::page_count;
 use edge_io::Bytes;
 use image_format::{Meta, MountErr, mount};
+use image_laws::laws::mounted_is_whole;
 use page_base::{NoMemory, Page};
 use plain_run::Plain;
 use std::alloc::Global;
@@ -80,18 +82,20 @@ fn machine_of(alloc: Global, meta: &Meta, body: &[Page]) -> Result<Plain, NoMemo
     Ok(plain)
 }
 
-/// The drive of an image of either version, with its files in a plain machine, or the image's first fault.
-pub fn load_image(alloc: Global, bytes: &[u8]) -> Result<PlainDrive, MountErr>
-    ensures value { Gives (λ d. d) result (drive_of bytes.now) }
-    ensures fits { IfOk result (λ d. Fits d.geometry.blocks d.plain) }
-    ensures limits { IfOk result (λ d. IsDrive d.geometry.blocks d.geometry.dies) }
+/// The drive of an image of either version, with its files in a plain machine, beside the meta data and the pages
+/// that the image mounts to; or the image's first fault.
+pub fn open_image(alloc: Global, bytes: &[u8]) -> Result<OpenedImage, MountErr>
+    ensures value { Gives (λ o. o.drive) result (drive_of bytes.now) }
+    ensures mounts { IfOk result (λ o. Mounts bytes.now o.meta o.pages.items (read_image bytes.now)) }
+    ensures fits { IfOk result (λ o. Fits o.drive.geometry.blocks o.drive.plain) }
+    ensures limits { IfOk result (λ o. IsDrive o.drive.geometry.blocks o.drive.geometry.dies) }
 {
     let (meta, pages) = mount(alloc, bytes)?;
+    mounted_is_whole();
     let _blocks = meta.extents.blocks();
     let body = pages.split_at(meta.geometry.meta_pages() as usize).1;
     let plain = machine_of(alloc, &meta, body)?;
-    Ok(PlainDrive {
-        geometry: meta.geometry,
-        plain,
-    })
+    let geometry = meta.geometry;
+    let drive = PlainDrive { geometry, plain };
+    Ok(OpenedImage { drive, meta, pages })
 }

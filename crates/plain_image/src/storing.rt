@@ -12,10 +12,12 @@ ghost use Rattle.plain_files.specs.Plain.{pages_of};
 ghost use Rattle.plain_image.specs.Fits.{Fits};
 ghost use Rattle.plain_image.specs.Drives.{drive_of, mounted_as, without_functions};
 ghost use Rattle.plain_image.specs.Image.{stored_file, file_pages, image_with};
+ghost use Rattle.plain_image.specs.Spelled.{IsSpelled};
 ghost use Rattle.plain_image.specs.Tables.{HasTables};
 
 use crate::pages::page_count;
 use extent_map::{Extent, ExtentMap};
+use image_format::laws::remounts;
 use image_format::{Bits, Meta, image_of};
 use name_table::Names;
 use page_base::{Geometry, NoMemory, Page};
@@ -145,7 +147,7 @@ fn add_files(into: &mut Vec<u8>, plain: &Plain) -> Result<(), NoMemory>
 }
 
 /// The image of a drive with the files of a plain machine, of version 2: the files one behind the other on the
-/// lowest data blocks, each from a block of its own on.
+/// lowest data blocks, each from a block of its own on. Its extent entries are the maximal runs.
 ///
 /// Loaded again it gives the same drive, without functions.
 pub fn store_image(alloc: Global, geometry: Geometry, plain: &Plain) -> Result<Vec<u8>, NoMemory>
@@ -153,7 +155,9 @@ pub fn store_image(alloc: Global, geometry: Geometry, plain: &Plain) -> Result<V
     ensures bytes { IfOk result (λ v. v.items ≡ image_with geometry plain.now) }
     ensures loads { IfOk result (λ v. drive_of v.items ≡ Ok (record { geometry = geometry; plain = without_functions plain.now })) }
     ensures mounts { IfOk result (λ v. mounts_to v.items ≡ Ok (mounted_as plain.now)) }
+    ensures spelled { IfOk result (λ v. IsSpelled v.items) }
 {
+    remounts();
     let total = geometry.total() as usize;
     let meta = meta_of(alloc, geometry, plain)?;
     let _names = meta.names.len();

@@ -47,7 +47,7 @@ fn put(image: &mut Vec<u8>, at: usize, bytes: &[u8]) {
 fn first_version_is_loaded_and_stored_as_the_second(rt: HostRuntime) -> Result<(), Fail> {
     let alloc = rt.alloc();
     let image = first_version(alloc)?;
-    let Ok(drive) = load_image(alloc, &image) else {
+    let Ok(OpenedImage { drive, .. }) = open_image(alloc, &image) else {
         return Ok(assert!(rt; false));
     };
     assert_eq!(rt;
@@ -76,12 +76,12 @@ fn first_version_is_loaded_and_stored_as_the_second(rt: HostRuntime) -> Result<(
 fn sealed_mark_is_loaded_and_stored(rt: HostRuntime) -> Result<(), Fail> {
     let alloc = rt.alloc();
     let image = first_version(alloc)?;
-    let Ok(drive) = load_image(alloc, &image) else {
+    let Ok(OpenedImage { drive, .. }) = open_image(alloc, &image) else {
         return Ok(assert!(rt; false));
     };
     let mut stored = store_image(alloc, drive.geometry, &drive.plain)?;
     put(&mut stored, 4096 + 9, &[1]);
-    let Ok(sealed) = load_image(alloc, &stored) else {
+    let Ok(OpenedImage { drive: sealed, .. }) = open_image(alloc, &stored) else {
         return Ok(assert!(rt; false));
     };
     let file = sealed.plain.file_at(0).ok_or("a file")?;
@@ -101,7 +101,7 @@ fn fault_of_an_image_is_told(rt: HostRuntime) -> Result<(), Fail> {
     put(&mut image, 4096 * 17 + 16, &[3]);
     let kind = ImageKind::Extent;
     let place = 4096 * 17 + 16;
-    match load_image(alloc, &image) {
+    match open_image(alloc, &image) {
         Err(MountErr::Image(fault)) => assert_eq!(rt; fault, ImageFault { kind, place }),
         _ => assert!(rt; false),
     }
