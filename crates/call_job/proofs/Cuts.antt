@@ -50,13 +50,13 @@ trunc_ends c lane call job name n len fill capacity result new is r d h e all s 
     cuts_end c lane call name n len (stored_reply result Done) (stored_len result len) job.pages.items new h e q l
     (λ i m. span_pages c lane call job i h e all s m (ap (λ (k : Call). gathers k call.claim.reach i) q)) s.gathered
     (record {
-        room = λ t. let o = by true t in (ap (λ (x : Option ℕ). stored_reply x Done) o, ap (λ (x : Option ℕ). stored_len x len) o);
-        full = λ t. let o = by false t in (ap (λ (x : Option ℕ). stored_reply x Done) o, d.none o);
-        cleared = λ t i m.
-            let o = ap is_some (by true t) in
-            let z : i ≡ 0 = first_alone n r.len i (subst (λ (x : CoreReach). i < x.pages) (sym s.reach ∙ (r.reach ∙ ap (λ (k : Call). core_reach.reach_of k r.len) is)) m) in
-            let some : 0 < job.reach.pages = let p : job.reach.pages ≡ call.claim.reach.pages = ap (λ (x : CoreReach). x.pages) s.reach in omega arith in
-            (ap (page_in new) z ∙ (d.cleared o some ∙ ap (λ (k : ℕ). cleared_from (page_in job.pages.items k) (n % 4096)) (sym z)), ap (λ (k : ℕ). length (page_in job.pages.items k)) z ∙ d.was o some, ap (λ (k : ℕ). length (page_in new k)) z ∙ d.whole o some);
+      room = λ t. let o = by true t in (ap (λ (x : Option ℕ). stored_reply x Done) o, ap (λ (x : Option ℕ). stored_len x len) o);
+      full = λ t. let o = by false t in (ap (λ (x : Option ℕ). stored_reply x Done) o, d.none o);
+      cleared = λ t i m.
+          let o = ap is_some (by true t) in
+          let z : i ≡ 0 = first_alone n r.len i (subst (λ (x : CoreReach). i < x.pages) (sym s.reach ∙ (r.reach ∙ ap (λ (k : Call). core_reach.reach_of k r.len) is)) m) in
+          let some : 0 < job.reach.pages = let p : job.reach.pages ≡ call.claim.reach.pages = ap (λ (x : CoreReach). x.pages) s.reach in omega arith in
+          (ap (page_in new) z ∙ (d.cleared o some ∙ ap (λ (k : ℕ). cleared_from (page_in job.pages.items k) (n % 4096)) (sym z)), ap (λ (k : ℕ). length (page_in job.pages.items k)) z ∙ d.was o some, ap (λ (k : ℕ). length (page_in new k)) z ∙ d.whole o some);
     })
   where
     by : (t : Bool) → has_room (filled c.names.files) c.shape.blocks len n ≡ t → result ≡ (if t then Some n else None)

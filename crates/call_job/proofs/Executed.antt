@@ -61,9 +61,9 @@ ready_as old new s rest r = record {
   readable = s.readable ∙ (r.readable ∙ (ap (λ (q : Request). readable_in q.call (reach_of old.reach) r.len) (sym s.request) ∙ ap (λ (k : Reach). readable_in new.request.call (reach_of k) r.len) (sym s.reach)));
   low = λ m. subst (λ (k : Reach). k.end ≤ 2 ^ 28) (sym s.reach) (r.low (ap (λ (k : Reach). is_exclusive (reach_of k).mode) (sym s.reach) ∙ m));
   buffers = record {
-      pool = let a = r.buffers.pool in let b = ap length s.pages in let c = ap (λ (q : Request). pool_of q.call) s.request in omega arith;
-      few = let a = r.buffers.few in let b = ap length s.pages in omega arith;
-      rest = rest;
+    pool = let a = r.buffers.pool in let b = ap length s.pages in let c = ap (λ (q : Request). pool_of q.call) s.request in omega arith;
+    few = let a = r.buffers.few in let b = ap length s.pages in omega arith;
+    rest = rest;
   };
 }
 
@@ -189,15 +189,18 @@ writel_asks job file function off n fuel param input is r =
     let h : HasRest job (Writel file off n function fuel param input) = subst (HasRest job) is r.buffers.rest in
     let s = three (is_long n) (is_long (length input)) (is_run_long param fuel) (ap is_too_long (sym is) ∙ r.short) in
     let reach : reach_of job.reach ≡ write_reach off n r.len = r.reach ∙ ap (λ (k : Call). core_reach.reach_of k r.len) is in
-    let pages : job.reach.pages ≡ (write_reach off n r.len).pages = ap (λ (k : CoreReach). k.pages) reach in
-    (record {
+    let pages : job.reach.pages ≡ (write_reach off n r.len).pages = ap (λ (k : CoreReach). k.pages) reach in (
+      record {
         there = ap is_some h.0.regions.is;
         has = h.0.regions;
         short = param_of_short param fuel s.2;
         fits = λ l. let f = has_fits (write_reach off n r.len) off n (write_has off n r.len) l in omega arith;
         pages = pool_has job r;
         flat = let c = long_of (length input) s.1 in let d = ap (λ (x : List ℕ). length x) h.1 in omega arith;
-    }, long_of n s.0, let a = write_pool off n r.len in let b = h.2 in omega arith)
+      },
+      long_of n s.0,
+      let a = write_pool off n r.len in let b = h.2 in omega arith,
+    )
 
 -- ---- what a run gives
 
@@ -210,10 +213,12 @@ pub readl_gives : (old new : Job) (file function : List ℕ) (off n fuel cap : �
     (given new ≡ Some (run_on old.request.call old.code.insns old.readable (page_in old.pages.items))) × (new.ran ≢ None)
 readl_gives old new file function off n fuel cap param is s fresh r ran =
     let h : HasRest old (Readl file off n function fuel cap param) = subst (HasRest old) is r.buffers.rest in
-    let q : new.request.call ≡ Readl file off n function fuel cap param = ap (λ (x : Request). x.call) s.request ∙ is in
-    (ap (λ (k : Call). option_map (λ (r : Outcome). outcome_of r (put_out new k)) new.ran) q
-        ∙ (ran ∙ (ap (λ (o : List ℕ). Some (machine.run old.code.insns (machine.shaped (paged_bytes (page_in old.pages.items) (off % 4096) old.readable) o param) fuel)) (h.2 fresh)
-        ∙ ap (λ (k : Call). Some (run_on k old.code.insns old.readable (page_in old.pages.items))) (sym is))), was_some (λ (r : Outcome). outcome_of r new.flat) new.ran _ ran)
+    let q : new.request.call ≡ Readl file off n function fuel cap param = ap (λ (x : Request). x.call) s.request ∙ is in (
+      ap (λ (k : Call). option_map (λ (r : Outcome). outcome_of r (put_out new k)) new.ran) q
+          ∙ (ran ∙ (ap (λ (o : List ℕ). Some (machine.run old.code.insns (machine.shaped (paged_bytes (page_in old.pages.items) (off % 4096) old.readable) o param) fuel)) (h.2 fresh)
+          ∙ ap (λ (k : Call). Some (run_on k old.code.insns old.readable (page_in old.pages.items))) (sym is))),
+      was_some (λ (r : Outcome). outcome_of r new.flat) new.ran _ ran,
+    )
 
 pub writel_gives : (old new : Job) (file function : List ℕ) (off n fuel : ℕ) (param input : List ℕ) → old.request.call ≡ Writel file off n function fuel param input → SameButRun old new → IsReady old →
     option_map (λ (r : Outcome). outcome_of r (span_part new.second.items (off % 4096) n)) new.ran ≡ Some (machine.run old.code.insns (machine.shaped old.flat (paged_bytes (page_in old.pages.items) (off % 4096) n) param) fuel) →

@@ -72,14 +72,7 @@ impl Job {
         match &self.request.call {
             Call::Trunc(_, n) => {
                 let n = *n;
-                let new = cut_bytes(
-                    &mut self.pages,
-                    self.reach.pages,
-                    n,
-                    len,
-                    in_use,
-                    capacity,
-                );
+                let new = cut_bytes(&mut self.pages, self.reach.pages, n, len, in_use, capacity);
                 stored(new, Reply::Done, len)
             }
             _ => unreachable!(),
