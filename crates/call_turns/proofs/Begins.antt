@@ -22,12 +22,12 @@ use Rattle.system_state.specs.Stands.{Stands}
 use Rattle.system_state.specs.declared.not_yet.NotYet.{NotYet}
 use Rattle.system_state.specs.declared.not_yet.NotYet.TheVariants.{NoRoom}
 use Rattle.system_state.specs.declared.state.State.{State}
-use Rattle.system_begin.specs.declared.attempt.Begun.{Begun}
-use Rattle.system_begin.specs.declared.attempt.Begun.TheVariants.{Ended, Started}
-use Rattle.system_begin.specs.Begun.{side_of}
-use Rattle.system_begin.specs.Ways.{begin_way, way_of, begin_event, IsNext}
+use Rattle.event_turns.specs.BegunAnswer.{Begun}
+use Rattle.event_turns.specs.BegunAnswer.TheVariants.{Ended, Started}
+use Rattle.event_turns.specs.Begun.{side_of}
+use Rattle.event_turns.specs.Ways.{begin_way, way_of, begin_event, IsNext}
 use Rattle.desk_turns.specs.Passing.{Turn}
-use Rattle.flushes.proofs.Turning.{if_ok}
+use Rattle.event_turns.proofs.FlushTurning.{if_ok}
 use Rattle.event_turns.specs.Words.{IsNumbered}
 use Rattle.event_turns.proofs.Taking.{DidAt, one_at, none_at}
 use Rattle.event_turns.proofs.Numbering.{numbered}

@@ -19,10 +19,10 @@ use Rattle.system_state.specs.Cores.{core_of}
 use Rattle.system_state.specs.Stands.{Stands}
 use Rattle.system_state.specs.declared.not_yet.NotYet.{NotYet}
 use Rattle.system_state.specs.declared.state.State.{State}
-use Rattle.system_quick.specs.declared.functions.Loading.{Loading}
-use Rattle.system_quick.specs.Waits.{quick_waits}
+use Rattle.event_turns.specs.LoadingOf.{Loading}
+use Rattle.event_turns.specs.QuickWaits.{quick_waits}
 use Rattle.desk_turns.specs.Passing.{Turn}
-use Rattle.flushes.proofs.Turning.{if_ok}
+use Rattle.event_turns.proofs.FlushTurning.{if_ok}
 use Rattle.event_turns.specs.Words.{IsNumbered}
 use Rattle.event_turns.proofs.Taking.{DidAt, one_at, none_at}
 use Rattle.event_turns.proofs.Numbering.{numbered}

@@ -33,7 +33,7 @@ use Rattle.system_state.specs.Jobs.{JobView}
 use Rattle.system_state.specs.Cores.{core_of}
 use Rattle.system_state.specs.declared.state.State.{State}
 use Rattle.desk_turns.specs.Passing.{Turn}
-use Rattle.flushes.proofs.Turning.{if_ok}
+use Rattle.event_turns.proofs.FlushTurning.{if_ok}
 use Rattle.event_turns.specs.Words.{IsNumbered}
 use Rattle.event_turns.proofs.Keeping.{again, at_flight}
 use Rattle.event_turns.proofs.Numbering.{numbered}

@@ -6,8 +6,8 @@ use Rattle.core_state.specs.declared.event.Event.{Event}
 use Rattle.core_state.specs.declared.event.Event.TheVariants.{Quick}
 use Rattle.core_state.specs.State.{Core}
 use Rattle.system_state.specs.declared.not_yet.NotYet.{NotYet}
-use Rattle.system_quick.specs.declared.functions.Loading.{Loading}
-use Rattle.system_quick.specs.Waits.{quick_waits}
+use Rattle.event_turns.specs.LoadingOf.{Loading}
+use Rattle.event_turns.specs.QuickWaits.{quick_waits}
 use Rattle.event_turns.specs.Words.{IsAnswered}
 
 -- it is answered in core c, with its reply as the event has it, or waits, and what it loads is as before

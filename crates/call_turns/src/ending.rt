@@ -20,7 +20,7 @@ ghost use Rattle.call_turns.specs.Ending.{EndsSync, EndSays, sync_reply};
 
 use core_state::Event;
 use flash_die::Die;
-use lambda_system::System;
+use event_turns::System;
 use page_base::Page;
 use plain_files::{Numbered, Reply, Request};
 use system_ends::{Ending, end_call, jobs_held};

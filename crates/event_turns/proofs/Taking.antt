@@ -26,7 +26,7 @@ use Rattle.desk_turns.specs.Passing.{IsItsOwn, May, ActsFor, core_seen, Turn}
 use Rattle.desk_turns.proofs.Holding.{run_split, coherent_all}
 use Rattle.desk_turns.proofs.Turning.{found, since, gives_at, turned_at, worn_found}
 use Rattle.desk_turns.proofs.Went.{if_err}
-use Rattle.lambda_system.specs.declared.system.System.{System}
+use Rattle.flushes.specs.SystemOf.{System}
 use Rattle.event_turns.specs.Words.{StillHolds}
 
 module _ {D J : Type 0} (seen : D → DieView) (suits : J → JobView → Type 0) where

@@ -14,7 +14,7 @@ ghost use Rattle.event_turns.specs.Words.{StillHolds};
 ghost use Rattle.event_turns.specs.JobTurns.{SuitsInSpan, FetchSays, IsUnbusy};
 
 use flash_die::Die;
-use lambda_system::System;
+use flushes::System;
 use system_lanes::{report, submit, try_fetch};
 use system_state::{CallJob, NotYet};
 use turn_cell::{Desk, Worn};

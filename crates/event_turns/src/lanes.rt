@@ -15,7 +15,7 @@ ghost use Rattle.event_turns.specs.Words.{StillHolds, IsNumbered};
 ghost use Rattle.event_turns.specs.LaneTurns.{ClosingSays, SkipSays};
 
 use flash_die::Die;
-use lambda_system::System;
+use flushes::System;
 use plain_files::{Numbered, Request};
 use system_lanes::{closing, enter, leave, skip};
 use system_state::{CallJob, NotYet};

@@ -21,7 +21,7 @@ ghost use Rattle.event_turns.specs.MetaTurns.{MayStore, MetaDid, MetaSays, IsMet
 use coherence::Pair;
 use core_state::Actor;
 use flash_die::Die;
-use lambda_system::System;
+use flushes::System;
 use page_base::Page;
 use system_metas::{meta_in, try_meta_out};
 use system_state::{CallJob, Errand, NotYet, State};

@@ -12,7 +12,7 @@ ghost use Rattle.event_turns.specs.PageTurns.{MayGather, GatherSays, FillSays, I
 
 use core_state::Actor;
 use flash_die::Die;
-use lambda_system::System;
+use flushes::System;
 use page_base::Page;
 use system_pages::{fill_in, try_copy, try_take};
 use system_state::{CallJob, Errand, NotYet};

@@ -19,10 +19,10 @@ use Rattle.desk_turns.specs.Making.{AreOf}
 use Rattle.desk_turns.specs.Passing.{ActsFor, IsItsOwn, core_after, core_seen, Turn, Went, Does}
 use Rattle.desk_turns.proofs.Later.{none_kept}
 use Rattle.desk_turns.proofs.Went.{of_on, went_on, went_none, went_turn}
-use Rattle.flushes.specs.Flushing.{MayFlushNow, IsClean, IsBusy, IsCutShort, FlushedOnce, FlushSays}
-use Rattle.flushes.proofs.Steps.{shape_at}
-use Rattle.flushes.specs.declared.flush.Flushed.{Flushed}
-use Rattle.flushes.specs.declared.flush.Flushed.TheVariants.{Wrote, Failed, Nothing, Busy}
+use Rattle.event_turns.specs.Flushing.{MayFlushNow, IsClean, IsBusy, IsCutShort, FlushedOnce, FlushSays}
+use Rattle.event_turns.proofs.FlushSteps.{shape_at}
+use Rattle.event_turns.specs.FlushedAnswer.{Flushed}
+use Rattle.event_turns.specs.FlushedAnswer.TheVariants.{Wrote, Failed, Nothing, Busy}
 use Rattle.event_turns.specs.LaneTurns.{ClosingSays}
 use Rattle.flusher.specs.Flusher.{HasFlushed, StepSays, LoopSays, IsIdle, flushed_step}
 use Rattle.flusher.specs.declared.step.FlusherStep.{FlusherStep}

@@ -11,9 +11,9 @@ use Rattle.system_state.specs.Cores.{core_of}
 use Rattle.system_state.specs.declared.state.State.{State}
 use Rattle.desk_turns.specs.Making.{AreOf}
 use Rattle.desk_turns.specs.Passing.{core_seen}
-use Rattle.flushes.specs.Flushing.{IsClean, IsBusy}
-use Rattle.flushes.specs.declared.flush.Flushed.{Flushed}
-use Rattle.flushes.specs.declared.flush.Flushed.TheVariants.{Wrote, Failed, Nothing, Busy}
+use Rattle.event_turns.specs.Flushing.{IsClean, IsBusy}
+use Rattle.event_turns.specs.FlushedAnswer.{Flushed}
+use Rattle.event_turns.specs.FlushedAnswer.TheVariants.{Wrote, Failed, Nothing, Busy}
 use Rattle.core_state.specs.State.{Core}
 use Rattle.flusher.specs.declared.step.FlusherStep.{FlusherStep}
 use Rattle.flusher.specs.declared.step.FlusherStep.TheVariants.{On, Waits, Closing}

@@ -9,7 +9,7 @@ ghost use Rattle.flusher.specs.Flusher.{LoopSays};
 
 use crate::step::{FlusherStep, flusher_step};
 use flash_die::Die;
-use lambda_system::System;
+use event_turns::System;
 use page_base::Page;
 use std::sync::Wait;
 use system_state::CallJob;

@@ -12,8 +12,8 @@ ghost use Rattle.system_state.specs.Cores.{core_of};
 ghost use Rattle.system_state.specs.Made.{Made};
 ghost use Rattle.system_state.specs.Stands.{IsStanding};
 ghost use Rattle.system_state.specs.declared.not_yet.NotYet.TheVariants.{NoRoom};
-ghost use Rattle.system_begin.specs.Begun.{side_of};
-ghost use Rattle.system_begin.specs.Ways.{begin_way, way_of, begin_event, IsNext};
+ghost use Rattle.system_quick.specs.Begun.{side_of};
+ghost use Rattle.system_quick.specs.Ways.{begin_way, way_of, begin_event, IsNext};
 ghost use Rattle.system_quick.specs.Tables.{IsDecoded};
 ghost use Rattle.system_quick.specs.Waits.{quick_waits};
 ghost use Rattle.lambda_system.specs.Events.{Extends};
@@ -22,7 +22,7 @@ use crate::system::System;
 use dispatcher::Side;
 use flash_die::Die;
 use plain_files::{Numbered, Request};
-use system_begin::Begun;
+use system_quick::Begun;
 use system_quick::Loading;
 use system_state::{CallJob, NotYet};
 
@@ -80,6 +80,6 @@ impl<D: Die, J: CallJob> System<D, J> {
         ensures picked { (used need : ℕ) → result ≡ Err (NoRoom used need) → picked.new ≡ side_of (core_of D.seen self.old.state) request.now }
         ensures same { IfErr result (λ y. self.new.state ≡ self.old.state) }
     {
-        system_begin::try_begin(&mut self.state, lane, request, picked)
+        system_quick::try_begin(&mut self.state, lane, request, picked)
     }
 }

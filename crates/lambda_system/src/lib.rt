@@ -13,7 +13,6 @@ mod system;
 
 pub use pages::Step;
 pub use system::System;
-pub use system_begin::Begun;
-pub use system_quick::Loading;
+pub use system_quick::{Begun, Loading, try_begin, try_quick};
 pub use system_start::Options;
 pub use system_state::{Errand, NotYet, Places};

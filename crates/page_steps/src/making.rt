@@ -12,7 +12,7 @@ use core_state::Actor;
 use dispatcher::Side;
 use flash_die::Die;
 use flushes::{Flushed, flush_home};
-use lambda_system::System;
+use flushes::System;
 use page_base::Page;
 use system_state::CallJob;
 use turn_cell::{Desk, Worn};

@@ -14,7 +14,7 @@ use crate::room::{Given, try_room};
 use core_state::Actor;
 use dispatcher::Side;
 use flash_die::Die;
-use lambda_system::System;
+use flushes::System;
 use page_base::Page;
 use system_state::CallJob;
 use turn_cell::{Desk, Worn};

@@ -26,7 +26,7 @@ use Rattle.system_state.specs.declared.errand.Errand.{Errand}
 use Rattle.system_state.specs.declared.state.State.{State}
 use Rattle.desk_turns.specs.Passing.{IsItsOwn}
 use Rattle.desk_turns.proofs.Later.{none_kept, keeps_held}
-use Rattle.flushes.specs.Flushing.{IsInHand}
+use Rattle.event_turns.specs.Flushing.{IsInHand}
 use Rattle.event_turns.proofs.Taking.{DidAt, one_at, none_at}
 use Rattle.event_turns.proofs.Errands.{sent_hand}
 use Rattle.core_closing.specs.Kept.{MaySettle}

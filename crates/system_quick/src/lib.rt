@@ -11,3 +11,4 @@ mod removing;
 
 pub use functions::Loading;
 pub use quick::try_quick;
+pub use system_begin::{Begun, try_begin};

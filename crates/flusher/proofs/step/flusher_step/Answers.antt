@@ -4,7 +4,7 @@ use Rattle.core_state.specs.Happens.{HoldsNone}
 use Rattle.system_state.specs.Cores.{core_of}
 use Rattle.desk_turns.specs.Passing.{ActsFor, core_seen, Does}
 use Rattle.desk_turns.proofs.Went.{went_turn}
-use Rattle.flushes.specs.Flushing.{MayFlushNow}
+use Rattle.event_turns.specs.Flushing.{MayFlushNow}
 use Rattle.event_turns.specs.LaneTurns.{ClosingSays}
 use Rattle.flusher.specs.Flusher.{StepSays}
 use Rattle.flusher.proofs.Stepping.{flusher_may, none_then, acts_then, closing_step, flushed_on, step_worn, flush_worn}
