@@ -1,0 +1,6 @@
+pub mod Answers
+pub mod Starved
+pub mod Syncs
+pub mod Alike
+pub mod Plans
+pub mod Faultless

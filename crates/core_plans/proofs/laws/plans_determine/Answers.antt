@@ -1,0 +1,6 @@
+use Rattle.core_plans.proofs.Plans.{same_by_plan}
+use Rattle.core_plans.proofs.Faultless.{same_faultless}
+use Rattle.core_plans.proofs.laws.plans_determine.Goals as goal
+
+pub returns : goal.returns
+returns c = record { planned = λ encode plans left. same_by_plan plans left encode; faultless = same_faultless }
