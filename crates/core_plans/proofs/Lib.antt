@@ -4,3 +4,5 @@ pub mod Syncs
 pub mod Alike
 pub mod Plans
 pub mod Faultless
+pub mod Sums
+pub mod Dies
