@@ -6,3 +6,5 @@ pub mod Plans
 pub mod Faultless
 pub mod Sums
 pub mod Dies
+pub mod Lines
+pub mod Told
