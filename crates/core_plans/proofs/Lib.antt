@@ -8,3 +8,5 @@ pub mod Sums
 pub mod Dies
 pub mod Lines
 pub mod Told
+pub mod Counted
+pub mod Spared

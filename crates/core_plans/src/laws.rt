@@ -5,7 +5,8 @@ ghost use Rattle.flash_die.specs.Dies.{PlanView};
 ghost use Rattle.core_state.specs.declared.event.Event.{Event};
 ghost use Rattle.core_state.specs.State.{Page, Core};
 ghost use Rattle.core_state.specs.Coherent.{Coherent};
-ghost use Rattle.core_state.specs.History.{failures};
+ghost use Rattle.core_state.specs.History.{failures, faults, calls_of};
+ghost use Rattle.core_state.specs.Happens.{CoreRun};
 ghost use Rattle.core_solo.specs.Solo.{Script, SoloRun};
 ghost use Rattle.core_solo.specs.Alone.{OpeningFrames};
 ghost use Rattle.core_solo.specs.Settling.{IsFresh};
@@ -33,12 +34,17 @@ use flash_die::Die;
 use system_state::CallJob;
 
 /// The dies' plans, what their failed writes leave, and the calls without memory determine a run of one thread: two from one opening core over one
-/// script are the same, event for event. Where nothing fails, the calls without memory alone determine it.
+/// script are the same, event for event. Where the plans list no write, nothing need be said of what failed writes leave; and where nothing fails, the
+/// calls without memory alone determine it.
 pub fn plans_determine()
     ensures planned { (encode : Core → ℕ → Page) (plans : ℕ → PlanView) (left : ℕ → ℕ → Page) (c0 c1 c2 : Core) (script : Script) (last : Bool) (es fs : List Event) →
         OpeningFrames c0.shape → length script.lanes ≡ c0.shape.lanes → Coherent c0 → IsFresh c0 →
         SoloRun encode c0 script last es c1 → FailAsPlanned plans es → LeaveAsTold left plans es →
         SoloRun encode c0 script last fs c2 → FailAsPlanned plans fs → LeaveAsTold left plans fs → starved_of es ≡ starved_of fs → es ≡ fs }
+    ensures reads { (encode : Core → ℕ → Page) (plans : ℕ → PlanView) (c0 c1 c2 : Core) (script : Script) (last : Bool) (es fs : List Event) →
+        OpeningFrames c0.shape → length script.lanes ≡ c0.shape.lanes → Coherent c0 → IsFresh c0 → ((d : ℕ) → (plans d).failing_writes ≡ []) →
+        SoloRun encode c0 script last es c1 → FailAsPlanned plans es → SoloRun encode c0 script last fs c2 → FailAsPlanned plans fs →
+        starved_of es ≡ starved_of fs → es ≡ fs }
     ensures faultless { (encode : Core → ℕ → Page) (c0 c1 c2 : Core) (script : Script) (last : Bool) (es fs : List Event) →
         OpeningFrames c0.shape → length script.lanes ≡ c0.shape.lanes → Coherent c0 → IsFresh c0 → SoloRun encode c0 script last es c1 → failures es ≡ 0 →
         SoloRun encode c0 script last fs c2 → failures fs ≡ 0 → starved_of es ≡ starved_of fs → es ≡ fs }
@@ -99,4 +105,13 @@ pub fn worked_lines()
     ensures plans { (plan_of four_lines false 0 ≡ record { reads = 1 ∷ []; writes = [] }) × (plan_of four_lines false 1 ≡ record { reads = []; writes = 7 ∷ [] })
         × (plan_of four_lines true 0 ≡ record { reads = 1 ∷ []; writes = [] }) }
     ensures three { distinct_lines four_lines ≡ 3 }
+{}
+
+/// Where a history from a coherent core fails as the lines say, no more die events fail than there are lines that say different things; so, where no lane
+/// has a mark at first, no more calls are answered `fault`.
+pub fn told_failures_few()
+    ensures failures { (c0 c1 : Core) (kind : DieKind) (lines : List FaultLine) (events : List Event) → Coherent c0 → CoreRun c0 events c1 →
+        FailAsTold kind lines events → FailAtMost (distinct_lines lines) events }
+    ensures faults { (c0 c1 : Core) (kind : DieKind) (lines : List FaultLine) (events : List Event) → Coherent c0 → ((lane : ℕ) → (c0.lanes lane).mark ≡ false) →
+        CoreRun c0 events c1 → FailAsTold kind lines events → faults (calls_of events) ≤ distinct_lines lines }
 {}
