@@ -1,0 +1,12 @@
+pub mod Answers
+pub mod Starved
+pub mod Syncs
+pub mod Alike
+pub mod Plans
+pub mod Faultless
+pub mod Sums
+pub mod Dies
+pub mod Lines
+pub mod Told
+pub mod Counted
+pub mod Spared

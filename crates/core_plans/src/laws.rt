@@ -1,0 +1,117 @@
+//! Laws: each is the contract of an empty function.
+ghost use Rattle.std.specs.Prelude.{◌≡◌, ◌<◌, ◌≤◌, ◌==◌, ◌&&◌, ◌||◌, nat_le, ℕ, Bool, true, false, List, [], ◌∷◌, length, Some, None};
+ghost use Rattle.std.specs.List.{list_any};
+ghost use Rattle.flash_die.specs.Dies.{PlanView};
+ghost use Rattle.core_state.specs.declared.event.Event.{Event};
+ghost use Rattle.core_state.specs.State.{Page, Core};
+ghost use Rattle.core_state.specs.Coherent.{Coherent};
+ghost use Rattle.core_state.specs.History.{failures, faults, calls_of};
+ghost use Rattle.core_state.specs.Happens.{CoreRun};
+ghost use Rattle.core_solo.specs.Solo.{Script, SoloRun};
+ghost use Rattle.core_solo.specs.Alone.{OpeningFrames};
+ghost use Rattle.core_solo.specs.Settling.{IsFresh};
+ghost use Rattle.core_solo.specs.Served.{starved_of};
+ghost use Rattle.core_state.specs.History.{DiePlan, Planned};
+ghost use Rattle.core_state.specs.Words.{sum_to};
+ghost use Rattle.turn_cell.specs.declared.book.Entry.{Entry};
+ghost use Rattle.turn_cell.specs.Events.{events_of};
+ghost use Rattle.system_state.specs.Stands.{Stands};
+ghost use Rattle.system_state.specs.declared.state.State.{State};
+ghost use Rattle.system_state.specs.Slots.{die_at};
+ghost use Rattle.edge_io.specs.Memory.{is_listed};
+ghost use Rattle.flash_die.specs.Failures.{told_die};
+ghost use Rattle.mirror_die.specs.Mirror.{seen_of};
+ghost use Rattle.drive_array.specs.Shares.{start_plan, loaded_die};
+ghost use Rattle.drive_array.specs.Mirrors.{mirror_of};
+ghost use Rattle.script_words.specs.declared.script.FaultLine.{FaultLine};
+ghost use Rattle.command_words.specs.declared.options.DieKind.{DieKind};
+ghost use Rattle.command_words.specs.declared.options.DieKind.TheVariants.{Mem, Ftl, Mirror};
+ghost use Rattle.core_plans.specs.Lines.{is_missing, first_missing, is_about, numbers_of, plan_of, listed_for, distinct_lines, made_with, IsDieOf, FailAsTold};
+ghost use Rattle.core_plans.specs.Worked.{first_read, other_die, second_copy, four_lines};
+ghost use Rattle.core_plans.specs.Failing.{FailAsPlanned, LeaveAsTold, ListsNone, FailAtMost, TellPlans, BoundFailures, unused};
+
+use flash_die::Die;
+use system_state::CallJob;
+
+/// The dies' plans, what their failed writes leave, and the calls without memory determine a run of one thread: two from one opening core over one
+/// script are the same, event for event. Where the plans list no write, nothing need be said of what failed writes leave; and where nothing fails, the
+/// calls without memory alone determine it.
+pub fn plans_determine()
+    ensures planned { (encode : Core → ℕ → Page) (plans : ℕ → PlanView) (left : ℕ → ℕ → Page) (c0 c1 c2 : Core) (script : Script) (last : Bool) (es fs : List Event) →
+        OpeningFrames c0.shape → length script.lanes ≡ c0.shape.lanes → Coherent c0 → IsFresh c0 →
+        SoloRun encode c0 script last es c1 → FailAsPlanned plans es → LeaveAsTold left plans es →
+        SoloRun encode c0 script last fs c2 → FailAsPlanned plans fs → LeaveAsTold left plans fs → starved_of es ≡ starved_of fs → es ≡ fs }
+    ensures reads { (encode : Core → ℕ → Page) (plans : ℕ → PlanView) (c0 c1 c2 : Core) (script : Script) (last : Bool) (es fs : List Event) →
+        OpeningFrames c0.shape → length script.lanes ≡ c0.shape.lanes → Coherent c0 → IsFresh c0 → ((d : ℕ) → (plans d).failing_writes ≡ []) →
+        SoloRun encode c0 script last es c1 → FailAsPlanned plans es → SoloRun encode c0 script last fs c2 → FailAsPlanned plans fs →
+        starved_of es ≡ starved_of fs → es ≡ fs }
+    ensures faultless { (encode : Core → ℕ → Page) (c0 c1 c2 : Core) (script : Script) (last : Bool) (es fs : List Event) →
+        OpeningFrames c0.shape → length script.lanes ≡ c0.shape.lanes → Coherent c0 → IsFresh c0 → SoloRun encode c0 script last es c1 → failures es ≡ 0 →
+        SoloRun encode c0 script last fs c2 → failures fs ≡ 0 → starved_of es ≡ starved_of fs → es ≡ fs }
+{}
+
+/// Where the dies' plans list no number, no die event fails.
+pub fn unlisted_spare()
+    ensures { (plans : ℕ → PlanView) (events : List Event) → ((d : ℕ) → ListsNone (plans d)) → FailAsPlanned plans events → failures events ≡ 0 }
+{}
+
+/// The history that a system stands for fails as the plans say that its dies told at the opening (*planned*), and at most as often as the
+/// bounds that they told let it (*bounded*).
+pub fn standing_planned<D: Die, J: CallJob>()
+    ensures planned { (s o : State D J) (h : List (Entry Event)) (plans : ℕ → PlanView) → Stands D.seen J.suits s o h → TellPlans D.seen o plans →
+        FailAsPlanned plans (events_of h) }
+    ensures bounded { (s o : State D J) (h : List (Entry Event)) (calls : ℕ → ℕ) → Stands D.seen J.suits s o h → BoundFailures D.seen o calls →
+        FailAtMost (sum_to o.sizes.dies calls) (events_of h) }
+{}
+
+/// Over dies that have made no call, the history fails by the plans as they are, each number counted from 1.
+pub fn counted_from_one()
+    ensures { (plans : ℕ → DiePlan) (events : List Event) → FailAsPlanned (λ d. unused (plans d)) events → Planned events plans }
+{}
+
+/// A plan lists a number exactly where a line names that read or write (*named*), and over any dies the plans list no more numbers, those of second
+/// copies with them, than there are lines that say different things (*few*).
+pub fn lines_listed()
+    ensures named { (copy writing : Bool) (die n : ℕ) (lines : List FaultLine) →
+        is_listed n (numbers_of copy writing die lines) ≡ list_any (λ line. is_about copy writing die line && (line.nth == n)) lines }
+    ensures few { (dies : ℕ) (lines : List FaultLine) → sum_to dies (listed_for lines) ≤ distinct_lines lines }
+{}
+
+/// Dies that an image was spread over with the plans of the lines tell these plans, and bound their failures by them: dies in memory, dies over
+/// raw flash, and mirrors.
+pub fn made_dies_tell()
+    ensures memory { (lines : List FaultLine) (d : ℕ) (pages : List (List ℕ)) → IsDieOf Mem lines d (told_die pages (start_plan (made_with lines false d))) }
+    ensures flash { (lines : List FaultLine) (d : ℕ) (pages : List (List ℕ)) → IsDieOf Ftl lines d (loaded_die pages (made_with lines false d)) }
+    ensures mirrors { (lines : List FaultLine) (d : ℕ) (pages copied : List (List ℕ)) →
+        IsDieOf Mirror lines d (seen_of (mirror_of (told_die pages (start_plan (made_with lines false d))) (told_die copied (start_plan (made_with lines true d))))) }
+{}
+
+/// The history that a system stands for over such dies fails as the lines say (*told*), and over each kind of dies no more die events fail than there
+/// are lines that say different things (*few*).
+pub fn standing_told<D: Die, J: CallJob>()
+    ensures told { (s o : State D J) (h : List (Entry Event)) (kind : DieKind) (lines : List FaultLine) → Stands D.seen J.suits s o h →
+        ((d : ℕ) → d < o.sizes.dies → IsDieOf kind lines d (die_at D.seen o.rack.slots.items d)) → FailAsTold kind lines (events_of h) }
+    ensures few { (s o : State D J) (h : List (Entry Event)) (kind : DieKind) (lines : List FaultLine) → Stands D.seen J.suits s o h →
+        ((d : ℕ) → d < o.sizes.dies → IsDieOf kind lines d (die_at D.seen o.rack.slots.items d)) → FailAtMost (distinct_lines lines) (events_of h) }
+{}
+
+/// Worked lines: over one die in memory a line of die 1 is missing, and so is one of a second copy, which only mirrors have; and what four lines
+/// come to, of which two say the same.
+pub fn worked_lines()
+    ensures memory { (is_missing Mem 1 first_read ≡ false) × (is_missing Mem 1 other_die ≡ true) × (is_missing Mem 2 other_die ≡ false) × (is_missing Mem 2 second_copy ≡ true) }
+    ensures flash { is_missing Ftl 2 second_copy ≡ true }
+    ensures mirrors { (is_missing Mirror 1 second_copy ≡ false) × (is_missing Mirror 1 other_die ≡ true) }
+    ensures first { (first_missing Mem 2 four_lines ≡ Some second_copy) × (first_missing Mem 1 four_lines ≡ Some other_die) × (first_missing Mirror 2 four_lines ≡ None) }
+    ensures plans { (plan_of four_lines false 0 ≡ record { reads = 1 ∷ []; writes = [] }) × (plan_of four_lines false 1 ≡ record { reads = []; writes = 7 ∷ [] })
+        × (plan_of four_lines true 0 ≡ record { reads = 1 ∷ []; writes = [] }) }
+    ensures three { distinct_lines four_lines ≡ 3 }
+{}
+
+/// Where a history from a coherent core fails as the lines say, no more die events fail than there are lines that say different things; so, where no lane
+/// has a mark at first, no more calls are answered `fault`.
+pub fn told_failures_few()
+    ensures failures { (c0 c1 : Core) (kind : DieKind) (lines : List FaultLine) (events : List Event) → Coherent c0 → CoreRun c0 events c1 →
+        FailAsTold kind lines events → FailAtMost (distinct_lines lines) events }
+    ensures faults { (c0 c1 : Core) (kind : DieKind) (lines : List FaultLine) (events : List Event) → Coherent c0 → ((lane : ℕ) → (c0.lanes lane).mark ≡ false) →
+        CoreRun c0 events c1 → FailAsTold kind lines events → faults (calls_of events) ≤ distinct_lines lines }
+{}
