@@ -3,3 +3,4 @@ pub mod Executed
 pub mod Endings
 pub mod Putting
 pub mod Cuts
+pub mod Kept

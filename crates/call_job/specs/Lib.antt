@@ -1,5 +1,6 @@
 pub mod Buffers
 pub mod Suits
+pub mod Views
 pub mod Lending
 pub mod Prepares
 pub mod Puts

@@ -7,6 +7,7 @@ mod cutting;
 mod ending;
 mod execution;
 mod job;
+pub mod laws;
 mod preparing;
 mod reading;
 mod storing;

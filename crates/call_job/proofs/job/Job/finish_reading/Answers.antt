@@ -1,4 +1,4 @@
-use Rattle.std.proofs.Common.{◌≡◌, ap, ◌∙◌}
+use Rattle.std.proofs.Common.{ap}
 use Rattle.core_state.specs.Reach.{is_lambda}
 use Rattle.call_job.proofs.Endings.{read_asks, read_answer, run_of, flat_long, readl_answer, read_only, read_runs_none, readl_used}
 use Rattle.call_job.proofs.job.Job.finish_reading.Goals as goal
