@@ -3,4 +3,5 @@ pub mod Executed
 pub mod Endings
 pub mod Putting
 pub mod Cuts
+pub mod Written
 pub mod Kept

@@ -38,7 +38,7 @@ pub record Asked (job : Job) (off : ℕ) (bytes : List ℕ) : Type 0 where
   pub low : 0 < length bytes → off + length bytes ≤ 2 ^ 28
   pub short : length bytes ≤ 262144
 
-ends_low : (job : Job) (r : IsReady job) (off n len : ℕ) → reach_of job.reach ≡ write_reach off n len → 0 < n → off + n ≤ 2 ^ 28
+pub ends_low : (job : Job) (r : IsReady job) (off n len : ℕ) → reach_of job.reach ≡ write_reach off n len → 0 < n → off + n ≤ 2 ^ 28
 ends_low job r off n len e l = go (n == 0) refl e
   where
     w : Bool → CoreReach

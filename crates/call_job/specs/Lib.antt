@@ -4,3 +4,4 @@ pub mod Views
 pub mod Lending
 pub mod Prepares
 pub mod Puts
+pub mod Writes

@@ -11,6 +11,7 @@ pub mod laws;
 mod preparing;
 mod reading;
 mod storing;
+mod writing;
 
 pub use job::Job;
 pub use preparing::{PrepareErr, Prepared};
