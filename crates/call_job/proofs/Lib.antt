@@ -4,4 +4,5 @@ pub mod Endings
 pub mod Putting
 pub mod Cuts
 pub mod Written
+pub mod Ended
 pub mod Kept

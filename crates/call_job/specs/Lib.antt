@@ -5,3 +5,4 @@ pub mod Lending
 pub mod Prepares
 pub mod Puts
 pub mod Writes
+pub mod Ends

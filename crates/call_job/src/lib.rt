@@ -6,6 +6,7 @@ mod copies;
 mod cutting;
 mod ending;
 mod execution;
+mod finishing;
 mod job;
 pub mod laws;
 mod preparing;

@@ -65,6 +65,7 @@ impl Job {
     fn take_output(&mut self)
         requires { self.old.reach.pages ≤ length self.old.second.items }
         ensures pages { self.new.pages.items ≡ self.old.second.items }
+        ensures request { self.new.request ≡ self.old.request }
         ensures whole { (i : ℕ) → i < self.old.reach.pages → length (page_in self.new.pages.items i) ≡ 4096 }
     {
         are_whole(&self.second, self.reach.pages);
@@ -81,6 +82,7 @@ impl Job {
         ensures put { (r : Outcome) (output : List ℕ) → self.old.ran ≡ Some r → is_put room (ended_as r output) ≡ true → (result.len ≡ new) × (self.new.pages.items ≡ self.old.second.items) × ((i : ℕ) → i < self.old.reach.pages → length (page_in self.new.pages.items i) ≡ 4096) }
         ensures kept { (r : Outcome) (output : List ℕ) → self.old.ran ≡ Some r → is_put room (ended_as r output) ≡ false → (result.len ≡ len) × (self.new.pages.items ≡ self.old.pages.items) }
         ensures many { self.old.reach.pages ≤ length self.new.pages.items }
+        ensures request { self.new.request ≡ self.old.request }
     {
         let Some(outcome) = self.ran else {
             unreachable!()
@@ -110,6 +112,7 @@ impl Job {
         ensures used { (c : Core) (call : Flight) → self.old.request ≡ call.claim.request → given self.old ≡ Some (outcome_of (plain c) call.claim.request.call) →
             result.ending.used ≡ used_of (outcome_of (plain c) call.claim.request.call) (fuel_of call.claim.request.call) }
         ensures many { self.old.reach.pages ≤ length self.new.pages.items }
+        ensures request { self.new.request ≡ self.old.request }
     {
         match &self.request.call {
             Call::Writel {
