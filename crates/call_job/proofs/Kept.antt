@@ -11,10 +11,11 @@ use Rattle.core_state.specs.PageEvents.{with_gathered}
 use Rattle.system_state.specs.Jobs.{JobView, view_of}
 use Rattle.span_bytes.specs.Spans.{page_in}
 use Rattle.call_job.specs.Buffers.{HasRest}
-use Rattle.call_job.specs.Suits.{HasResult, IsReady, Suits}
+use Rattle.call_job.specs.Suits.{HasResult, IsReady, Suits, SameButRun}
 use Rattle.call_job.specs.Views.{TellsSame, TellsOneMore}
 use Rattle.call_job.specs.Lending.{with_page}
 use Rattle.call_job.specs.declared.job.Job.{Job}
+use Rattle.call_job.proofs.Executed.{suits_ran}
 
 -- ---- told again
 
@@ -141,3 +142,20 @@ suits_free job names call i w fresh none s = suits_written job (view_of names ca
 pub suits_one_more : (job : Job) (names : Names) (call : Flight) (i : ℕ) (p : Page) (frame : Frame) → job.ran ≡ None → i < length job.pages.items → call.gathered i ≡ None → Suits job (view_of names call) → Suits (with_page job i p) (view_of names (with_gathered call i p frame))
 suits_one_more job names call i p frame fresh within none s =
     suits_gathered job (view_of names call) (view_of names (with_gathered call i p frame)) i p fresh within none (tells_gathered names call i p frame) s
+
+-- ---- another phase, and a run
+
+pub suits_in_phase : (job : Job) (names : Names) (call : Flight) (phase : Phase) → HasResult job phase → Suits job (view_of names call) → Suits job (view_of names (record call { phase = phase }))
+suits_in_phase job names call phase r s = record {
+  request = s.request;
+  side = s.side;
+  reach = s.reach;
+  code = s.code;
+  readable = s.readable;
+  ready = s.ready;
+  gathered = s.gathered;
+  result = r;
+}
+
+pub suits_run : (old new : Job) (names : Names) (call : Flight) → SameButRun old new → IsReady new → HasResult new call.phase → Suits old (view_of names call) → Suits new (view_of names call)
+suits_run old new names call same ready r s = suits_ran old new (view_of names call) same ready s r

@@ -2,7 +2,7 @@
 ghost use Rattle.std.specs.Prelude.{◌≡◌, ◌<◌, ◌≤◌, ℕ, List, length, true, false, Some, None};
 ghost use Rattle.plain_files.specs.declared.calls.Reply.{Reply};
 ghost use Rattle.plain_files.specs.declared.calls.Reply.TheVariants.{Fault};
-ghost use Rattle.core_state.specs.State.{Page, Names, Frame, Flight, Core};
+ghost use Rattle.core_state.specs.State.{Page, Names, Frame, Phase, Flight, Core};
 ghost use Rattle.core_state.specs.Reach.{is_data, is_lambda};
 ghost use Rattle.core_state.specs.PlainOf.{plain, outcome_of, used_of, fuel_of};
 ghost use Rattle.core_state.specs.PageEvents.{with_gathered};
@@ -15,7 +15,7 @@ ghost use Rattle.span_bytes.specs.Spans.{page_in};
 ghost use Rattle.call_answers.specs.Ends.{EndsAs};
 ghost use Rattle.call_job.specs.Ends.{HasRun, MayEndWith};
 ghost use Rattle.call_job.specs.Lending.{with_page};
-ghost use Rattle.call_job.specs.Suits.{given, Suits};
+ghost use Rattle.call_job.specs.Suits.{HasResult, IsReady, Suits, SameButRun, given};
 ghost use Rattle.call_job.specs.Views.{TellsSame};
 ghost use Rattle.call_job.specs.declared.job.Job.{Job};
 
@@ -29,6 +29,12 @@ pub fn suits_gathered()
     ensures written { (job : Job) (names : Names) (call : Flight) (i : ℕ) (page : List ℕ) → job.ran ≡ None → call.gathered i ≡ None → Suits job (view_of names call) → Suits (with_page job i page) (view_of names call) }
     ensures gathered { (job : Job) (names : Names) (call : Flight) (i : ℕ) (page : List ℕ) (frame : Frame) → job.ran ≡ None → i < length job.pages.items → call.gathered i ≡ None → Suits job (view_of names call) →
         Suits (with_page job i page) (view_of names (with_gathered call i page frame)) }
+{}
+
+/// A job that suits its call suits it in another phase, if it has the result that this phase asks for; and a run of its function keeps it so.
+pub fn suits_run()
+    ensures in_phase { (job : Job) (names : Names) (call : Flight) (phase : Phase) → HasResult job phase → Suits job (view_of names call) → Suits job (view_of names (record call { phase = phase })) }
+    ensures executed { (old new : Job) (names : Names) (call : Flight) → SameButRun old new → IsReady new → HasResult new call.phase → Suits old (view_of names call) → Suits new (view_of names call) }
 {}
 
 /// A data call without a mark may end with what `finish` gave: its reply, the fuel that its function used, its file's length, and the
