@@ -1,0 +1,4 @@
+pub mod Suiting
+pub mod Homing
+pub mod Calls
+pub mod Trying
