@@ -10,7 +10,7 @@ pub mod laws;
 mod metas;
 mod pages;
 
-pub use flushes::{Begun, Flushed, Loading, System, flush_once, turn_flush_in, try_begin, try_quick};
+pub use flushes::{Begun, Flushed, Loading, System, flush_home, flush_once, turn_flush_in, try_begin, try_quick};
 
 pub use handing::{turn_fetch, turn_report, turn_submit};
 pub use lanes::{turn_closing, turn_enter, turn_leave, turn_skip};

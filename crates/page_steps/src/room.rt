@@ -13,7 +13,7 @@ ghost use Rattle.page_steps.specs.Room.{MayMove, Gave, IsSent, move_event, given
 use core_state::Actor;
 use dispatcher::Side;
 use flash_die::Die;
-use flushes::System;
+use event_turns::System;
 use page_base::Page;
 use system_state::{CallJob, Errand};
 

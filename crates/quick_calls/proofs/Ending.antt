@@ -31,14 +31,14 @@ use Rattle.desk_turns.specs.Passing.{ActsFor, core_after, core_seen, Turn, Went,
 use Rattle.desk_turns.proofs.Holding.{coherent_all}
 use Rattle.desk_turns.proofs.Later.{own_idle, none_kept}
 use Rattle.desk_turns.proofs.Went.{went_on, went_none, went_turn, found_turn}
-use Rattle.event_turns.specs.LaneTurns.{SkipSays}
-use Rattle.event_turns.specs.LoadingOf.{Loading}
-use Rattle.event_turns.specs.QuickWaits.{quick_waits}
+use Rattle.call_turns.specs.LaneTurns.{SkipSays}
+use Rattle.call_turns.specs.LoadingOf.{Loading}
+use Rattle.call_turns.specs.QuickWaits.{quick_waits}
 use Rattle.system_lanes.specs.Waiting.{awaited_still}
-use Rattle.event_turns.proofs.FlushSteps.{shape_at}
-use Rattle.event_turns.proofs.Keeping.{idle_kept}
+use Rattle.call_turns.proofs.FlushSteps.{shape_at}
+use Rattle.call_turns.proofs.Keeping.{idle_kept}
 use Rattle.call_turns.specs.Quick.{QuickSays}
-use Rattle.page_steps.specs.Making.{IsIdleWith, IsFree}
+use Rattle.call_turns.specs.Making.{IsIdleWith, IsFree}
 use Rattle.quick_calls.specs.Calls.{IsEndedBy, QuickCallSays, SkipCallSays}
 use Rattle.quick_calls.proofs.Frees.{free_quick, free_skip, quick_solo, quick_unblocked, awaited_none}
 

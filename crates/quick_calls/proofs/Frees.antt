@@ -26,8 +26,8 @@ use Rattle.core_solo.proofs.Nexts.{quick_next}
 use Rattle.system_state.specs.declared.not_yet.NotYet.{NotYet}
 use Rattle.system_state.specs.declared.not_yet.NotYet.TheVariants.{Awaited, Conflict, FnInUse}
 use Rattle.system_lanes.specs.Waiting.{awaited_still}
-use Rattle.event_turns.specs.QuickWaits.{holds, uses, conflict_on, use_of, in_the_way, waits_by, quick_waits}
-use Rattle.page_steps.specs.Making.{IsFree}
+use Rattle.call_turns.specs.QuickWaits.{holds, uses, conflict_on, use_of, in_the_way, waits_by, quick_waits}
+use Rattle.call_turns.specs.Making.{IsFree}
 
 -- ---- after the event
 

@@ -1,9 +1,9 @@
 pub mod Frees
 pub mod Ending
 pub use Rattle.call_turns.proofs.Syncs
-pub use Rattle.event_turns.proofs.Errands
-pub use Rattle.event_turns.proofs.Keeping
-pub use Rattle.event_turns.proofs.Nexts
-pub use Rattle.event_turns.proofs.Taking
-pub use Rattle.event_turns.proofs.FlushSteps
-pub use Rattle.page_steps.proofs.Moves
+pub use Rattle.call_turns.proofs.Errands
+pub use Rattle.call_turns.proofs.Keeping
+pub use Rattle.call_turns.proofs.Nexts
+pub use Rattle.call_turns.proofs.Taking
+pub use Rattle.call_turns.proofs.FlushSteps
+pub use Rattle.call_turns.proofs.Moves

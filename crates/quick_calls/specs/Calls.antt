@@ -16,7 +16,7 @@ use Rattle.system_state.specs.Cores.{core_of}
 use Rattle.system_state.specs.declared.state.State.{State}
 use Rattle.system_metas.specs.Encode.{encode}
 use Rattle.desk_turns.specs.Passing.{core_seen, FoundAt}
-use Rattle.page_steps.specs.Making.{IsFree}
+use Rattle.call_turns.specs.Making.{IsFree}
 
 module _ {D J : Type 0} (seen : D → DieView) where
   -- One event was made, in a core in which it might be, and its lane is free then. Where the pass is alone, it leads from the core as it was

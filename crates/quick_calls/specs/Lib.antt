@@ -1,12 +1,12 @@
 pub mod Calls
 pub use Rattle.call_turns.specs.Beginning
 pub use Rattle.call_turns.specs.Ending
-pub use Rattle.event_turns.specs.Words
-pub use Rattle.event_turns.specs.MetaTurns
-pub use Rattle.event_turns.specs.Flushing
-pub use Rattle.event_turns.specs.BegunAnswer
-pub use Rattle.event_turns.specs.Begun
-pub use Rattle.event_turns.specs.Ways
-pub use Rattle.event_turns.specs.Books
-pub use Rattle.event_turns.specs.declared.metas.MetaOut as MetaAnswer
-pub use Rattle.page_steps.specs.Making
+pub use Rattle.call_turns.specs.Words
+pub use Rattle.call_turns.specs.MetaTurns
+pub use Rattle.call_turns.specs.Flushing
+pub use Rattle.call_turns.specs.BegunAnswer
+pub use Rattle.call_turns.specs.Begun
+pub use Rattle.call_turns.specs.Ways
+pub use Rattle.call_turns.specs.Books
+pub use Rattle.call_turns.specs.MetaAnswer
+pub use Rattle.call_turns.specs.Making

@@ -10,11 +10,11 @@ ghost use Rattle.core_state.specs.LaneEvents.{IsIdle, HasAwaited};
 ghost use Rattle.core_state.specs.Happens.{HoldsNone};
 ghost use Rattle.system_state.specs.Cores.{core_of};
 ghost use Rattle.desk_turns.specs.Passing.{ActsFor, core_seen, Does};
-ghost use Rattle.event_turns.specs.Books.{opening_in};
-ghost use Rattle.event_turns.specs.Words.{IsNumbered};
+ghost use Rattle.call_turns.specs.Books.{opening_in};
+ghost use Rattle.call_turns.specs.Words.{IsNumbered};
 ghost use Rattle.quick_calls.specs.Calls.{SkipCallSays};
 
-use event_turns::{System, turn_skip};
+use call_turns::{System, turn_skip};
 use flash_die::Die;
 use plain_files::{Numbered, Request};
 use std::sync::Wait;

@@ -11,9 +11,9 @@ use Rattle.core_state.specs.LaneEvents.{IsIdle}
 use Rattle.system_state.specs.Cores.{core_of}
 use Rattle.system_state.specs.declared.state.State.{State}
 use Rattle.desk_turns.specs.Passing.{ActsFor, core_seen, Does}
-use Rattle.event_turns.specs.Books.{opening_in}
-use Rattle.event_turns.specs.QuickTables.{IsDecoded}
-use Rattle.event_turns.specs.Words.{IsNumbered, IsSmall}
+use Rattle.call_turns.specs.Books.{opening_in}
+use Rattle.call_turns.specs.QuickTables.{IsDecoded}
+use Rattle.call_turns.specs.Words.{IsNumbered, IsSmall}
 use Rattle.quick_calls.proofs.Ending.{answer_told, Waited, waited_none, acts_after, quick_on, quick_waits_on, quick_loading, quick_worn}
 use Rattle.quick_calls.proofs.quick.quick_call.Goals as goal
 

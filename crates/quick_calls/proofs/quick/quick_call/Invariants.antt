@@ -1,8 +1,8 @@
 use Rattle.std.proofs.Common.{◌≡◌, false}
 use Rattle.turn_cell.specs.Desks.{IsFreeAt}
 use Rattle.turn_cell.specs.Passes.{opening_of, view}
-use Rattle.event_turns.specs.Books.{opening_in}
-use Rattle.event_turns.specs.QuickTables.{IsDecoded}
+use Rattle.call_turns.specs.Books.{opening_in}
+use Rattle.call_turns.specs.QuickTables.{IsDecoded}
 use Rattle.desk_turns.specs.Passing.{Does}
 use Rattle.quick_calls.proofs.Ending.{Waited}
 use Rattle.quick_calls.proofs.quick.quick_call.Given as goal

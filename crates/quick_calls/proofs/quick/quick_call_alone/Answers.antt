@@ -1,6 +1,6 @@
 use Rattle.std.proofs.Common.{false, refl, inl}
 use Rattle.turn_cell.specs.Desks.{view_alone, opening_alone}
-use Rattle.event_turns.specs.Books.{opening_in}
+use Rattle.call_turns.specs.Books.{opening_in}
 use Rattle.quick_calls.proofs.Ending.{waited_none, quick_on, quick_worn, quick_alone}
 use Rattle.quick_calls.proofs.quick.quick_call_alone.Goals as goal
 

@@ -11,8 +11,8 @@ use Rattle.core_state.specs.LaneEvents.{IsIdle}
 use Rattle.system_state.specs.Cores.{core_of}
 use Rattle.system_state.specs.declared.state.State.{State}
 use Rattle.desk_turns.specs.Passing.{ActsFor, core_seen, Does}
-use Rattle.event_turns.specs.Books.{opening_in}
-use Rattle.event_turns.specs.Words.{IsNumbered}
+use Rattle.call_turns.specs.Books.{opening_in}
+use Rattle.call_turns.specs.Words.{IsNumbered}
 use Rattle.quick_calls.proofs.Ending.{answer_told, Waited, waited_none, acts_after, skip_on, skip_waits_on, skip_worn}
 use Rattle.quick_calls.proofs.skip.skip_call.Goals as goal
 

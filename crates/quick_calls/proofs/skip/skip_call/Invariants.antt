@@ -1,7 +1,7 @@
 use Rattle.std.proofs.Common.{◌≡◌}
 use Rattle.turn_cell.specs.Desks.{IsFreeAt}
 use Rattle.turn_cell.specs.Passes.{opening_of, view}
-use Rattle.event_turns.specs.Books.{opening_in}
+use Rattle.call_turns.specs.Books.{opening_in}
 use Rattle.system_state.specs.Cores.{core_of}
 use Rattle.desk_turns.specs.Passing.{core_seen, Does}
 use Rattle.quick_calls.proofs.Ending.{Waited}

@@ -2,7 +2,7 @@ use Rattle.std.proofs.Common.{refl, inl}
 use Rattle.turn_cell.specs.Desks.{view_alone, opening_alone}
 use Rattle.system_state.specs.Cores.{core_of}
 use Rattle.desk_turns.specs.Passing.{core_seen}
-use Rattle.event_turns.specs.Books.{opening_in}
+use Rattle.call_turns.specs.Books.{opening_in}
 use Rattle.quick_calls.proofs.Ending.{waited_none, skip_on, skip_worn, skip_alone}
 use Rattle.quick_calls.proofs.skip.skip_call_alone.Goals as goal
 
