@@ -16,7 +16,8 @@ use Rattle.core_state.specs.History.{read_of, write_of, DiePlan, IsListed, IsPla
 use Rattle.core_history.proofs.Faults.{run_faults}
 use Rattle.system_state.specs.Stands.{count_such, has_failed, tally}
 use Rattle.core_plans.specs.Failing.{FailAtMost}
-use Rattle.core_plans.specs.Lines.{plan_of, listed_in, listed_for, distinct_lines, FailAsTold}
+use Rattle.fault_lines.specs.Lines.{distinct_lines}
+use Rattle.core_plans.specs.Lines.{plan_of, listed_in, listed_for, FailAsTold}
 use Rattle.core_plans.proofs.Dies.{all_within}
 use Rattle.core_plans.proofs.Lines.{sum_lines}
 use Rattle.core_plans.proofs.Sums.{sum_below}

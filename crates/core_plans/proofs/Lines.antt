@@ -1,6 +1,6 @@
--- The plans of a script's lines: which numbers they list, and how many.
-use Rattle.std.proofs.Common.{◌≡◌, ℕ, zero, suc, ◌+◌, ◌<◌, ◌≤◌, Bool, true, false, List, [], ◌∷◌, ◌++◌, length, refl, sym, ap, ◌∙◌, ⊎_elim, arith, length-append}
-use Rattle.std.specs.Prelude.{◌≢◌, ◌==◌, ◌&&◌, ◌||◌, not, if◌then◌else◌}
+-- How many numbers the plans of a script's lines list.
+use Rattle.std.proofs.Common.{◌≡◌, ℕ, zero, suc, ◌+◌, ◌<◌, ◌≤◌, Bool, true, false, List, [], ◌∷◌, ◌++◌, length, refl, ap, ◌∙◌, ⊎_elim, arith, length-append}
+use Rattle.std.specs.Prelude.{◌≢◌, ◌==◌, ◌&&◌, not, if◌then◌else◌}
 use Rattle.std.specs.List.{list_any}
 use Rattle.std.proofs.lemmas.Bool.Decides.{nat_tests}
 use Rattle.edge_io.specs.Memory.{is_listed}
@@ -8,58 +8,10 @@ use Rattle.index_lists.specs.Words.{one_if}
 use Rattle.index_lists.proofs.Counts.{same_or_not}
 use Rattle.script_words.specs.declared.script.FaultLine.{FaultLine}
 use Rattle.core_state.specs.Words.{sum_to}
-use Rattle.core_plans.specs.Lines.{is_same, is_about, listing, numbers_of, listed_for, says_same, distinct_lines}
+use Rattle.fault_lines.specs.Lines.{is_same, is_about, listing, numbers_of, says_same, distinct_lines}
+use Rattle.fault_lines.proofs.Named.{numbers_named}
+use Rattle.core_plans.specs.Lines.{listed_for}
 use Rattle.core_plans.proofs.Sums.{sum_both, sum_below}
-
--- ---- which
-
-any_both : (test : ℕ → Bool) (xs ys : List ℕ) → list_any test (xs ++ ys) ≡ (list_any test xs || list_any test ys)
-any_both test [] ys = refl
-any_both test (x ∷ xs) ys = either (test x) (any_both test xs ys)
-  where
-    either : (t : Bool) → list_any test (xs ++ ys) ≡ (list_any test xs || list_any test ys) → (t || list_any test (xs ++ ys)) ≡ ((t || list_any test xs) || list_any test ys)
-    either true e = refl
-    either false e = e
-
-or_nothing : (a : Bool) → (a || false) ≡ a
-or_nothing true = refl
-or_nothing false = refl
-
-or_comm : (a b : Bool) → (a || b) ≡ (b || a)
-or_comm true true = refl
-or_comm true false = refl
-or_comm false true = refl
-or_comm false false = refl
-
-same_number : (m n : ℕ) (xs : List ℕ) → is_listed m xs ≡ true → (m == n) ≡ true → is_listed n xs ≡ true
-same_number m n xs l e = let s : m ≡ n = grind (arith, nat_tests) in ap (λ (k : ℕ). is_listed k xs) (sym s) ∙ l
-
--- one number more
-pub listed_more : (n m : ℕ) (xs : List ℕ) → is_listed n (listing m xs) ≡ ((m == n) || is_listed n xs)
-listed_more n m xs = go (is_listed m xs) refl (m == n) refl
-  where
-    go : (t : Bool) → is_listed m xs ≡ t → (u : Bool) → (m == n) ≡ u → is_listed n (if t then xs else xs ++ m ∷ []) ≡ (u || is_listed n xs)
-    go true a true b = same_number m n xs a b
-    go true a false b = refl
-    go false a u b = any_both (λ k. k == n) xs (m ∷ []) ∙ (ap (λ (z : Bool). is_listed n xs || z) (or_nothing (m == n) ∙ b) ∙ or_comm (is_listed n xs) u)
-
--- a number is listed exactly where a line names that call
-pub numbers_named : (copy writing : Bool) (die n : ℕ) (lines : List FaultLine) →
-    is_listed n (numbers_of copy writing die lines) ≡ list_any (λ line. is_about copy writing die line && (line.nth == n)) lines
-unfolding numbers_of
-numbers_named copy writing die n [] = refl
-numbers_named copy writing die n (line ∷ lines) = go (is_about copy writing die line) (numbers_named copy writing die n lines)
-  where
-    xs : List ℕ
-    xs = numbers_of copy writing die lines
-
-    more : Bool
-    more = list_any (λ other. is_about copy writing die other && (other.nth == n)) lines
-
-    go : (t : Bool) → is_listed n (numbers_of copy writing die lines) ≡ list_any (λ other. is_about copy writing die other && (other.nth == n)) lines →
-        is_listed n (if t then listing line.nth (numbers_of copy writing die lines) else numbers_of copy writing die lines) ≡ ((t && (line.nth == n)) || list_any (λ other. is_about copy writing die other && (other.nth == n)) lines)
-    go true ih = listed_more n line.nth (numbers_of copy writing die lines) ∙ ap (λ (z : Bool). (line.nth == n) || z) ih
-    go false ih = ih
 
 -- ---- how many
 
@@ -135,7 +87,11 @@ unlike a b d = grind (arith, nat_tests, d)
 abbrev adds : FaultLine → List FaultLine → ℕ → ℕ
 adds line lines d = added false false line lines d + added false true line lines d + (added true false line lines d + added true true line lines d)
 
-line_adds : (dies : ℕ) (line : FaultLine) (lines : List FaultLine) → sum_to dies (adds line lines) ≤ one_if (not (list_any (says_same line) lines))
+unlisted : (t : Bool) → one_if (not t) ≡ (if t then 0 else 1)
+unlisted true = refl
+unlisted false = refl
+
+line_adds : (dies : ℕ) (line : FaultLine) (lines : List FaultLine) → sum_to dies (adds line lines) ≤ (if list_any (says_same line) lines then 0 else 1)
 line_adds dies line lines =
     let x = line.copy in
     let y = line.writing in
@@ -145,7 +101,7 @@ line_adds dies line lines =
     let b = sum_only dies line.die own (λ d o. ap (λ (e : Bool). case_of x y x y e (n d x y)) (unlike d line.die o) ∙ and_nothing x y (not (n d x y))) in
     let c = at_most x y (line.die == line.die) (n line.die x y) in
     let s : n line.die x y ≡ list_any (says_same line) lines = numbers_named x y line.die line.nth lines in
-    let t = ap (λ (z : Bool). one_if (not z)) s in
+    let t = ap (λ (z : Bool). one_if (not z)) s ∙ unlisted (list_any (says_same line) lines) in
     omega arith
 
 -- over any dies, the plans list no more numbers than there are lines that say different things

@@ -16,27 +16,28 @@ use Rattle.system_state.specs.Slots.{die_at}
 use Rattle.system_state.specs.Stands.{Stands}
 use Rattle.system_state.specs.declared.state.State.{State}
 use Rattle.core_plans.specs.Failing.{FailAtMost, unused}
-use Rattle.core_plans.specs.Lines.{plan_of, listed_in, listed_for, distinct_lines, made_with, IsDieOf, FailAsTold}
+use Rattle.fault_lines.specs.Lines.{plan_for, distinct_lines}
+use Rattle.core_plans.specs.Lines.{plan_of, listed_in, listed_for, IsDieOf, FailAsTold}
 use Rattle.core_plans.proofs.Dies.{stands_planned, stands_bounded}
 use Rattle.core_plans.proofs.Lines.{sum_lines}
 
 -- ---- dies just made
 
-pub made_memory : (lines : List FaultLine) (d : ℕ) (pages : List (List ℕ)) → IsDieOf Mem lines d (told_die pages (start_plan (made_with lines false d)))
+pub made_memory : (lines : List FaultLine) (d : ℕ) (pages : List (List ℕ)) → IsDieOf Mem lines d (told_die pages (start_plan (plan_for lines false d)))
 unfolding failed_of
 made_memory lines d pages = record {
   plan = refl;
   few = record { most = listed_in (plan_of lines false d); told = refl; few = omega arith };
 }
 
-pub made_flash : (lines : List FaultLine) (d : ℕ) (pages : List (List ℕ)) → IsDieOf Ftl lines d (loaded_die pages (made_with lines false d))
+pub made_flash : (lines : List FaultLine) (d : ℕ) (pages : List (List ℕ)) → IsDieOf Ftl lines d (loaded_die pages (plan_for lines false d))
 made_flash lines d pages = record {
   plan = tt;
   few = record { most = listed_in (plan_of lines false d); told = refl; few = omega arith };
 }
 
 pub made_mirror : (lines : List FaultLine) (d : ℕ) (pages copied : List (List ℕ)) →
-    IsDieOf Mirror lines d (seen_of (mirror_of (told_die pages (start_plan (made_with lines false d))) (told_die copied (start_plan (made_with lines true d)))))
+    IsDieOf Mirror lines d (seen_of (mirror_of (told_die pages (start_plan (plan_for lines false d))) (told_die copied (start_plan (plan_for lines true d)))))
 made_mirror lines d pages copied = record {
   plan = tt;
   few = record { most = listed_for lines d; told = refl; few = omega arith };

@@ -26,8 +26,8 @@ ghost use Rattle.drive_array.specs.Mirrors.{mirror_of};
 ghost use Rattle.script_words.specs.declared.script.FaultLine.{FaultLine};
 ghost use Rattle.command_words.specs.declared.options.DieKind.{DieKind};
 ghost use Rattle.command_words.specs.declared.options.DieKind.TheVariants.{Mem, Ftl, Mirror};
-ghost use Rattle.core_plans.specs.Lines.{is_missing, first_missing, is_about, numbers_of, plan_of, listed_for, distinct_lines, made_with, IsDieOf, FailAsTold};
-ghost use Rattle.core_plans.specs.Worked.{first_read, other_die, second_copy, four_lines};
+ghost use Rattle.fault_lines.specs.Lines.{plan_for, distinct_lines};
+ghost use Rattle.core_plans.specs.Lines.{listed_for, IsDieOf, FailAsTold};
 ghost use Rattle.core_plans.specs.Failing.{FailAsPlanned, LeaveAsTold, ListsNone, FailAtMost, TellPlans, BoundFailures, unused};
 
 use flash_die::Die;
@@ -69,21 +69,18 @@ pub fn counted_from_one()
     ensures { (plans : ℕ → DiePlan) (events : List Event) → FailAsPlanned (λ d. unused (plans d)) events → Planned events plans }
 {}
 
-/// A plan lists a number exactly where a line names that read or write (*named*), and over any dies the plans list no more numbers, those of second
-/// copies with them, than there are lines that say different things (*few*).
-pub fn lines_listed()
-    ensures named { (copy writing : Bool) (die n : ℕ) (lines : List FaultLine) →
-        is_listed n (numbers_of copy writing die lines) ≡ list_any (λ line. is_about copy writing die line && (line.nth == n)) lines }
-    ensures few { (dies : ℕ) (lines : List FaultLine) → sum_to dies (listed_for lines) ≤ distinct_lines lines }
+/// Over any dies, the plans of lines list no more numbers, those of second copies with them, than there are lines that say different things.
+pub fn plans_list_few()
+    ensures { (dies : ℕ) (lines : List FaultLine) → sum_to dies (listed_for lines) ≤ distinct_lines lines }
 {}
 
 /// Dies that an image was spread over with the plans of the lines tell these plans, and bound their failures by them: dies in memory, dies over
 /// raw flash, and mirrors.
 pub fn made_dies_tell()
-    ensures memory { (lines : List FaultLine) (d : ℕ) (pages : List (List ℕ)) → IsDieOf Mem lines d (told_die pages (start_plan (made_with lines false d))) }
-    ensures flash { (lines : List FaultLine) (d : ℕ) (pages : List (List ℕ)) → IsDieOf Ftl lines d (loaded_die pages (made_with lines false d)) }
+    ensures memory { (lines : List FaultLine) (d : ℕ) (pages : List (List ℕ)) → IsDieOf Mem lines d (told_die pages (start_plan (plan_for lines false d))) }
+    ensures flash { (lines : List FaultLine) (d : ℕ) (pages : List (List ℕ)) → IsDieOf Ftl lines d (loaded_die pages (plan_for lines false d)) }
     ensures mirrors { (lines : List FaultLine) (d : ℕ) (pages copied : List (List ℕ)) →
-        IsDieOf Mirror lines d (seen_of (mirror_of (told_die pages (start_plan (made_with lines false d))) (told_die copied (start_plan (made_with lines true d))))) }
+        IsDieOf Mirror lines d (seen_of (mirror_of (told_die pages (start_plan (plan_for lines false d))) (told_die copied (start_plan (plan_for lines true d))))) }
 {}
 
 /// The history that a system stands for over such dies fails as the lines say (*told*), and over each kind of dies no more die events fail than there
@@ -93,18 +90,6 @@ pub fn standing_told<D: Die, J: CallJob>()
         ((d : ℕ) → d < o.sizes.dies → IsDieOf kind lines d (die_at D.seen o.rack.slots.items d)) → FailAsTold kind lines (events_of h) }
     ensures few { (s o : State D J) (h : List (Entry Event)) (kind : DieKind) (lines : List FaultLine) → Stands D.seen J.suits s o h →
         ((d : ℕ) → d < o.sizes.dies → IsDieOf kind lines d (die_at D.seen o.rack.slots.items d)) → FailAtMost (distinct_lines lines) (events_of h) }
-{}
-
-/// Worked lines: over one die in memory a line of die 1 is missing, and so is one of a second copy, which only mirrors have; and what four lines
-/// come to, of which two say the same.
-pub fn worked_lines()
-    ensures memory { (is_missing Mem 1 first_read ≡ false) × (is_missing Mem 1 other_die ≡ true) × (is_missing Mem 2 other_die ≡ false) × (is_missing Mem 2 second_copy ≡ true) }
-    ensures flash { is_missing Ftl 2 second_copy ≡ true }
-    ensures mirrors { (is_missing Mirror 1 second_copy ≡ false) × (is_missing Mirror 1 other_die ≡ true) }
-    ensures first { (first_missing Mem 2 four_lines ≡ Some second_copy) × (first_missing Mem 1 four_lines ≡ Some other_die) × (first_missing Mirror 2 four_lines ≡ None) }
-    ensures plans { (plan_of four_lines false 0 ≡ record { reads = 1 ∷ []; writes = [] }) × (plan_of four_lines false 1 ≡ record { reads = []; writes = 7 ∷ [] })
-        × (plan_of four_lines true 0 ≡ record { reads = 1 ∷ []; writes = [] }) }
-    ensures three { distinct_lines four_lines ≡ 3 }
 {}
 
 /// Where a history from a coherent core fails as the lines say, no more die events fail than there are lines that say different things; so, where no lane

@@ -1,5 +1,5 @@
-//! What a script's fault lines come to: the plans of dies, histories whose die events fail as planned, and what plans determine, as laws
-//! over definitions alone.
+//! Histories whose die events fail as the plans of dies say, or as a script's fault lines do, and what plans determine, as laws over definitions
+//! alone.
 #![tactic(auto)]
 
 pub mod laws;

@@ -1,6 +1,6 @@
 use Rattle.std.proofs.Common.{refl}
-use Rattle.core_plans.specs.Lines.{numbers_of}
-use Rattle.core_plans.proofs.laws.worked_lines.Goals as goal
+use Rattle.fault_lines.specs.Lines.{numbers_of}
+use Rattle.fault_lines.proofs.laws.worked_lines.Goals as goal
 
 pub returns : goal.returns
 unfolding numbers_of
