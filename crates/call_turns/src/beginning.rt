@@ -16,9 +16,8 @@ ghost use Rattle.call_turns.specs.Beginning.{BeginSays};
 
 use dispatcher::Side;
 use flash_die::Die;
-use page_steps::System;
+use page_steps::{Begun, System, try_begin};
 use plain_files::Request;
-use page_steps::{Begun, try_begin};
 use system_state::{CallJob, NotYet};
 use turn_cell::{Desk, Worn};
 

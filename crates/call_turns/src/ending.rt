@@ -20,8 +20,8 @@ ghost use Rattle.call_turns.specs.Ending.{EndsSync, EndSays, sync_reply};
 
 use core_state::Event;
 use flash_die::Die;
-use page_steps::System;
 use page_base::Page;
+use page_steps::System;
 use plain_files::{Numbered, Reply, Request};
 use system_ends::{Ending, end_call, jobs_held};
 use system_state::{CallJob, State};

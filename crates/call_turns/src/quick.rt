@@ -14,9 +14,8 @@ ghost use Rattle.page_steps.specs.Words.{StillHolds, IsNumbered, IsSmall};
 ghost use Rattle.call_turns.specs.Quick.{QuickSays};
 
 use flash_die::Die;
-use page_steps::System;
+use page_steps::{Loading, System, try_quick};
 use plain_files::{Numbered, Request};
-use page_steps::{Loading, try_quick};
 use system_state::{CallJob, NotYet};
 use turn_cell::{Desk, Worn};
 

@@ -16,8 +16,7 @@ ghost use Rattle.call_turns.specs.Words.{IsNumbered, IsSmall};
 ghost use Rattle.call_turns.specs.Making.{IsFree};
 ghost use Rattle.quick_calls.specs.Calls.{QuickCallSays};
 
-use call_turns::turn_quick;
-use call_turns::{Loading, System};
+use call_turns::{Loading, System, turn_quick};
 use flash_die::Die;
 use plain_files::{Numbered, Request};
 use std::sync::Wait;

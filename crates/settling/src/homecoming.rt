@@ -11,11 +11,9 @@ ghost use Rattle.page_steps.specs.Flushing.{IsInHand, HasFailed};
 ghost use Rattle.settling.specs.Next.{BlockBack, PageBack};
 
 use core_state::Actor;
-use page_steps::turn_meta_in;
 use flash_die::Die;
-use page_steps::turn_flush_in;
-use page_steps::System;
 use page_base::Page;
+use page_steps::{System, turn_flush_in, turn_meta_in};
 use system_state::{CallJob, Errand};
 use turn_cell::{Desk, Worn};
 

@@ -11,8 +11,8 @@ ghost use Rattle.settling.specs.Settle.{SettleSays};
 
 use crate::step::{SettleStep, settle_step};
 use flash_die::Die;
-use page_steps::System;
 use page_base::Page;
+use page_steps::System;
 use std::sync::Wait;
 use system_state::CallJob;
 use turn_cell::{Alone, Desk, Seated, Worn};

@@ -15,8 +15,8 @@ ghost use Rattle.settling.specs.declared.next.Next.TheVariants.{Block, Meta};
 
 use crate::next::{Next, try_next};
 use flash_die::Die;
-use page_steps::System;
 use page_base::Page;
+use page_steps::System;
 use system_state::CallJob;
 use turn_cell::{Desk, Worn};
 
