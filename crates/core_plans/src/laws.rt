@@ -27,6 +27,12 @@ ghost use Rattle.script_words.specs.declared.script.FaultLine.{FaultLine};
 ghost use Rattle.command_words.specs.declared.options.DieKind.{DieKind};
 ghost use Rattle.command_words.specs.declared.options.DieKind.TheVariants.{Mem, Ftl, Mirror};
 ghost use Rattle.fault_lines.specs.Lines.{plan_for, distinct_lines};
+ghost use Rattle.std.specs.Prelude.{map, IfSome};
+ghost use Rattle.page_base.specs.Drive.{Drive};
+ghost use Rattle.drive_array.specs.Reads.{share_of, StopsIn, RisesAt, FailsWithin, GivesAll};
+ghost use Rattle.drive_array.specs.Reads as array;
+ghost use Rattle.system_start.specs.Started.{at_home};
+ghost use Rattle.core_plans.specs.Gathering.{IsLost};
 ghost use Rattle.core_plans.specs.Lines.{listed_for, IsDieOf, FailAsTold};
 ghost use Rattle.core_plans.specs.Failing.{FailAsPlanned, LeaveAsTold, ListsNone, FailAtMost, TellPlans, BoundFailures, unused};
 
@@ -99,4 +105,16 @@ pub fn told_failures_few()
         FailAsTold kind lines events → FailAtMost (distinct_lines lines) events }
     ensures faults { (c0 c1 : Core) (kind : DieKind) (lines : List FaultLine) (events : List Event) → Coherent c0 → ((lane : ℕ) → (c0.lanes lane).mark ≡ false) →
         CoreRun c0 events c1 → FailAsTold kind lines events → faults (calls_of events) ≤ distinct_lines lines }
+{}
+
+/// `gather`, of the dies of a system that stands for a history, as they come home: what it says of an `Ok` (*whole*) and of a die that failed (*lost*) is
+/// that over dies in memory it fails exactly where a line names one of its reads, and over others only where there is a line.
+pub fn gathered_told<D: Die, J: CallJob>()
+    ensures whole { (s o : State D J) (h : List (Entry Event)) (kind : DieKind) (lines : List FaultLine) (drive : Drive) (dies : List D) → Stands D.seen J.suits s o h →
+        ((d : ℕ) → d < o.sizes.dies → IsDieOf kind lines d (die_at D.seen o.rack.slots.items d)) → at_home dies ≡ s.rack.slots.items → drive.dies ≡ o.sizes.dies →
+        ((d : ℕ) → d < drive.dies → IfSome (array.die_at (map D.seen dies) d).plan (GivesAll (share_of drive d))) → IsLost kind lines drive (events_of h) false }
+    ensures lost { (s o : State D J) (h : List (Entry Event)) (kind : DieKind) (lines : List FaultLine) (drive : Drive) (dies left : List D) (d : ℕ) → Stands D.seen J.suits s o h →
+        ((d : ℕ) → d < o.sizes.dies → IsDieOf kind lines d (die_at D.seen o.rack.slots.items d)) → at_home dies ≡ s.rack.slots.items → drive.dies ≡ o.sizes.dies →
+        0 < drive.dies → StopsIn drive d (map D.seen dies) (map D.seen left) → RisesAt d (map D.seen dies) (map D.seen left) →
+        IfSome (array.die_at (map D.seen dies) d).plan (FailsWithin (share_of drive d)) → IsLost kind lines drive (events_of h) true }
 {}
