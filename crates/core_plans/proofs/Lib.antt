@@ -11,3 +11,4 @@ pub mod Told
 pub mod Counted
 pub mod Spared
 pub mod Gathers
+pub mod Unfaulted
