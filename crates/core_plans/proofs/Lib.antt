@@ -10,3 +10,5 @@ pub mod Lines
 pub mod Told
 pub mod Counted
 pub mod Spared
+pub mod Gathers
+pub mod Unfaulted

@@ -1,24 +1,24 @@
 //! Laws: each is the contract of an empty function.
-ghost use Rattle.std.specs.Prelude.{◌≡◌, ◌<◌, ◌≤◌, ◌==◌, ◌&&◌, ◌||◌, nat_le, ℕ, Bool, true, false, List, [], ◌∷◌, length, Some, None};
-ghost use Rattle.std.specs.List.{list_any};
+ghost use Rattle.drive_array.specs.Reads as array;
+ghost use Rattle.std.specs.Prelude.{◌≡◌, ◌<◌, ◌≤◌, ℕ, Bool, true, false, List, [], length, map, IfSome};
 ghost use Rattle.flash_die.specs.Dies.{PlanView};
 ghost use Rattle.core_state.specs.declared.event.Event.{Event};
 ghost use Rattle.core_state.specs.State.{Page, Core};
 ghost use Rattle.core_state.specs.Coherent.{Coherent};
-ghost use Rattle.core_state.specs.History.{failures, faults, calls_of};
+ghost use Rattle.core_state.specs.History.{failures, faults, calls_of, DiePlan, Planned};
 ghost use Rattle.core_state.specs.Happens.{CoreRun};
 ghost use Rattle.core_solo.specs.Solo.{Script, SoloRun};
 ghost use Rattle.core_solo.specs.Alone.{OpeningFrames};
 ghost use Rattle.core_solo.specs.Settling.{IsFresh};
-ghost use Rattle.core_solo.specs.Served.{starved_of};
-ghost use Rattle.core_state.specs.History.{DiePlan, Planned};
+ghost use Rattle.core_solo.specs.Served.{starved_of, AreFed, line_calls};
+ghost use Rattle.plain_files.specs.History.{replies, Entry as Called};
+ghost use Rattle.core_state.specs.PlainOf.{plain};
 ghost use Rattle.core_state.specs.Words.{sum_to};
 ghost use Rattle.turn_cell.specs.declared.book.Entry.{Entry};
 ghost use Rattle.turn_cell.specs.Events.{events_of};
 ghost use Rattle.system_state.specs.Stands.{Stands};
 ghost use Rattle.system_state.specs.declared.state.State.{State};
 ghost use Rattle.system_state.specs.Slots.{die_at};
-ghost use Rattle.edge_io.specs.Memory.{is_listed};
 ghost use Rattle.flash_die.specs.Failures.{told_die};
 ghost use Rattle.mirror_die.specs.Mirror.{seen_of};
 ghost use Rattle.drive_array.specs.Shares.{start_plan, loaded_die};
@@ -27,7 +27,11 @@ ghost use Rattle.script_words.specs.declared.script.FaultLine.{FaultLine};
 ghost use Rattle.command_words.specs.declared.options.DieKind.{DieKind};
 ghost use Rattle.command_words.specs.declared.options.DieKind.TheVariants.{Mem, Ftl, Mirror};
 ghost use Rattle.fault_lines.specs.Lines.{plan_for, distinct_lines};
-ghost use Rattle.core_plans.specs.Lines.{listed_for, IsDieOf, FailAsTold};
+ghost use Rattle.page_base.specs.Drive.{Drive};
+ghost use Rattle.drive_array.specs.Reads.{share_of, StopsIn, RisesAt, FailsWithin, GivesAll};
+ghost use Rattle.system_start.specs.Started.{at_home};
+ghost use Rattle.core_plans.specs.Gathering.{IsLost};
+ghost use Rattle.core_plans.specs.Lines.{plan_of, listed_for, IsDieOf, FailAsTold};
 ghost use Rattle.core_plans.specs.Failing.{FailAsPlanned, LeaveAsTold, ListsNone, FailAtMost, TellPlans, BoundFailures, unused};
 
 use flash_die::Die;
@@ -99,4 +103,39 @@ pub fn told_failures_few()
         FailAsTold kind lines events → FailAtMost (distinct_lines lines) events }
     ensures faults { (c0 c1 : Core) (kind : DieKind) (lines : List FaultLine) (events : List Event) → Coherent c0 → ((lane : ℕ) → (c0.lanes lane).mark ≡ false) →
         CoreRun c0 events c1 → FailAsTold kind lines events → faults (calls_of events) ≤ distinct_lines lines }
+{}
+
+/// `gather`, of the dies of a system that stands for a history, as they come home: what it says of an `Ok` (*whole*) and of a die that failed (*lost*) is
+/// that over dies in memory it fails exactly where a line names one of its reads, and over others only where there is a line.
+pub fn gathered_told<D: Die, J: CallJob>()
+    ensures whole { (s o : State D J) (h : List (Entry Event)) (kind : DieKind) (lines : List FaultLine) (drive : Drive) (dies : List D) → Stands D.seen J.suits s o h →
+        ((d : ℕ) → d < o.sizes.dies → IsDieOf kind lines d (die_at D.seen o.rack.slots.items d)) → at_home dies ≡ s.rack.slots.items → drive.dies ≡ o.sizes.dies →
+        ((d : ℕ) → d < drive.dies → IfSome (array.die_at (map D.seen dies) d).plan (GivesAll (share_of drive d))) → IsLost kind lines drive (events_of h) false }
+    ensures lost { (s o : State D J) (h : List (Entry Event)) (kind : DieKind) (lines : List FaultLine) (drive : Drive) (dies left : List D) (d : ℕ) → Stands D.seen J.suits s o h →
+        ((d : ℕ) → d < o.sizes.dies → IsDieOf kind lines d (die_at D.seen o.rack.slots.items d)) → at_home dies ≡ s.rack.slots.items → drive.dies ≡ o.sizes.dies →
+        0 < drive.dies → StopsIn drive d (map D.seen dies) (map D.seen left) → RisesAt d (map D.seen dies) (map D.seen left) →
+        IfSome (array.die_at (map D.seen dies) d).plan (FailsWithin (share_of drive d)) → IsLost kind lines drive (events_of h) true }
+{}
+
+/// A script's lines, what failed writes leave, and the calls without memory determine the run of one thread over dies in memory.
+pub fn lines_determine()
+    ensures { (encode : Core → ℕ → Page) (lines : List FaultLine) (left : ℕ → ℕ → Page) (c0 c1 c2 : Core) (script : Script) (last : Bool) (es fs : List Event) →
+        OpeningFrames c0.shape → length script.lanes ≡ c0.shape.lanes → Coherent c0 → IsFresh c0 →
+        SoloRun encode c0 script last es c1 → FailAsTold Mem lines es → LeaveAsTold left (λ d. unused (plan_of lines false d)) es →
+        SoloRun encode c0 script last fs c2 → FailAsTold Mem lines fs → LeaveAsTold left (λ d. unused (plan_of lines false d)) fs →
+        starved_of es ≡ starved_of fs → es ≡ fs }
+{}
+
+/// Without `fault` lines, over dies of any kind: no die event fails (*spared*), nor does gathering (*kept*); the calls without memory alone determine the
+/// run of one thread (*same*); and where there are none, its replies are the plain machine's, in line order (*exact*).
+pub fn unfaulted()
+    ensures spared { (c0 c1 : Core) (kind : DieKind) (events : List Event) → Coherent c0 → CoreRun c0 events c1 → FailAsTold kind [] events → failures events ≡ 0 }
+    ensures kept { (kind : DieKind) (drive : Drive) (events : List Event) → IsLost kind [] drive events true → ⊥ }
+    ensures same { (encode : Core → ℕ → Page) (kind : DieKind) (c0 c1 c2 : Core) (script : Script) (last : Bool) (es fs : List Event) →
+        OpeningFrames c0.shape → length script.lanes ≡ c0.shape.lanes → Coherent c0 → IsFresh c0 → SoloRun encode c0 script last es c1 → FailAsTold kind [] es →
+        SoloRun encode c0 script last fs c2 → FailAsTold kind [] fs → starved_of es ≡ starved_of fs → es ≡ fs }
+    ensures exact { (encode : Core → ℕ → Page) (kind : DieKind) (c0 c1 : Core) (script : Script) (last : Bool) (events : List Event) →
+        OpeningFrames c0.shape → length script.lanes ≡ c0.shape.lanes → Coherent c0 → IsFresh c0 → ((lane : ℕ) → (c0.lanes lane).mark ≡ false) →
+        SoloRun encode c0 script last events c1 → FailAsTold kind [] events → AreFed (calls_of events) →
+        map (λ (e : Called). e.reply) (calls_of events) ≡ replies (plain c0) (line_calls script script.order) }
 {}
