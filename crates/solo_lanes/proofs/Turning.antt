@@ -1,5 +1,5 @@
 -- Lanes come and go, turn by turn.
-use Rattle.std.proofs.Common.{◌≡◌, ℕ, ◌+◌, ◌<◌, ◌≤◌, true, List, [], ◌∷◌, ◌++◌, refl, sym, ap, ◌∙◌, subst, append-nil, arith}
+use Rattle.std.proofs.Common.{◌≡◌, ℕ, ◌+◌, ◌<◌, true, List, [], ◌∷◌, ◌++◌, refl, sym, ap, ◌∙◌, subst, append-nil, arith}
 use Rattle.std.specs.Prelude.{map, Result, Ok, Err}
 use Rattle.std.specs.Result.{IsErr}
 use Rattle.std.specs.List.{range_with_len}
@@ -9,18 +9,19 @@ use Rattle.turn_cell.specs.declared.book.Entry.{Entry}
 use Rattle.turn_cell.specs.declared.view.View.{View}
 use Rattle.turn_cell.specs.declared.pass.Worn.{Worn}
 use Rattle.flash_die.specs.Dies.{DieView}
+use Rattle.core_state.specs.declared.actor.Actor.TheVariants.{Lane}
 use Rattle.core_state.specs.declared.event.Event.{Event}
-use Rattle.core_state.specs.declared.event.Event.TheVariants.{Enter}
+use Rattle.core_state.specs.declared.event.Event.TheVariants.{Enter, Leave}
 use Rattle.core_state.specs.State.{Core}
-use Rattle.core_state.specs.Happens.{CoreRun, after}
-use Rattle.core_state.specs.LaneEvents.{MayEnter}
-use Rattle.core_solo.specs.Solo.{enters}
+use Rattle.core_state.specs.Happens.{HoldsNone, CoreRun, after}
+use Rattle.core_state.specs.LaneEvents.{MayEnter, MayLeave}
+use Rattle.core_solo.specs.Solo.{enters, leaves}
 use Rattle.system_state.specs.Cores.{core_of}
 use Rattle.system_state.specs.declared.state.State.{State}
 use Rattle.desk_turns.specs.Passing.{core_after, core_seen, Turn, Went, Does}
 use Rattle.desk_turns.proofs.Went.{went_on, went_none, went_turn}
-use Rattle.solo_lanes.specs.Lanes.{IsUnentered, AreMade, HaveEntered, EnterSays}
-use Rattle.solo_lanes.proofs.Passages.{next_enters, all_rest, all_kept}
+use Rattle.solo_lanes.specs.Lanes.{IsUnentered, MayAllLeave, AreMade, HaveEntered, HaveLeft, EnterSays, LeaveSays}
+use Rattle.solo_lanes.proofs.Passages.{next_enters, all_rest, all_kept, still_home, next_free, next_leaves, all_gone, ready_then}
 
 run_on : (es fs : List Event) (c d e : Core) → CoreRun c es d → CoreRun d fs e → CoreRun c (es ++ fs) e
 run_on [] fs c d e r s = subst (λ (x : Core). CoreRun x fs e) r s
@@ -72,7 +73,7 @@ module _ {D J : Type 0} (seen : D → DieView) where
 
   -- ---- the answers
 
-  pub entered_worn : (o : Snapshot (State D J)) (v u w : View (Snapshot (State D J)) Event) (n lanes : ℕ) (r : Result (Unit {0}) Worn) → IsErr r → n ≤ lanes → v.alone ≡ true →
+  pub entered_worn : (o : Snapshot (State D J)) (v u w : View (Snapshot (State D J)) Event) (n lanes : ℕ) (r : Result (Unit {0}) Worn) → IsErr r → n < lanes → v.alone ≡ true →
       Does v u (AreMade seen o v u (enters n)) → Went u w [] → Does v w (EnterSays seen o v w lanes r)
   entered_worn o v u w n lanes (Ok x) e low a p went = absurd (cc)
   entered_worn o v u w n lanes (Err x) e low a p went =
@@ -98,3 +99,46 @@ module _ {D J : Type 0} (seen : D → DieView) where
   may_enter o q v u n lanes same low number un p =
       subst (λ (z : Snapshot (State D J)). MayEnter (core_seen C z u) n) (sym same)
       (next_enters (core_seen C o v) (core_seen C o u) n un (subst (λ (es : List Event). CoreRun (core_seen C o v) es (core_seen C o u)) p.says.are p.says.run) (subst (λ (x : ℕ). n < x) number low))
+
+  -- ---- and as they leave
+
+  abbrev Left : Snapshot (State D J) → View (Snapshot (State D J)) Event → View (Snapshot (State D J)) Event → ℕ → Type 0
+  Left o v u n = Does v u (AreMade seen o v u (leaves n))
+
+  gone_run : (o : Snapshot (State D J)) (v u : View (Snapshot (State D J)) Event) (n : ℕ) → (p : Left o v u n) → CoreRun (core_seen C o v) (leaves n) (core_seen C o u)
+  gone_run o v u n p = subst (λ (es : List Event). CoreRun (core_seen C o v) es (core_seen C o u)) p.says.are p.says.run
+
+  pub may_leave : (o q : Snapshot (State D J)) (v u : View (Snapshot (State D J)) Event) (n lanes : ℕ) → q ≡ o → n < lanes → lanes ≡ (core_seen C o v).shape.lanes → MayAllLeave (core_seen C o v) →
+      Left o v u n → MayLeave (core_seen C q u) n
+  may_leave o q v u n lanes same low number may p =
+      subst (λ (z : Snapshot (State D J)). MayLeave (core_seen C z u) n) (sym same)
+      (next_leaves (core_seen C o v) (core_seen C o u) n may (gone_run o v u n p) (subst (λ (x : ℕ). n < x) number low))
+
+  pub may_hold_none : (o q : Snapshot (State D J)) (v u : View (Snapshot (State D J)) Event) (n : ℕ) → q ≡ o → MayAllLeave (core_seen C o v) → Left o v u n → HoldsNone (core_seen C q u) (Lane n)
+  may_hold_none o q v u n same may p =
+      subst (λ (z : Snapshot (State D J)). HoldsNone (core_seen C z u) (Lane n)) (sym same) (next_free (core_seen C o v) (core_seen C o u) n may.rest.home (gone_run o v u n p))
+
+  pub left_worn : (o : Snapshot (State D J)) (v u w : View (Snapshot (State D J)) Event) (n lanes : ℕ) (r : Result (Unit {0}) Worn) → IsErr r → n < lanes → v.alone ≡ true →
+      Left o v u n → Went u w [] → Does v w (LeaveSays seen o v w lanes r)
+  left_worn o v u w n lanes (Ok x) e low a p went = absurd (cc)
+  left_worn o v u w n lanes (Err x) e low a p went =
+      let k = made_worn (λ lane. Leave lane) o v u w n a p went in
+      record { events = k.events; went = k.went; says = (n, low, k.says) }
+
+  pub left_all : (o : Snapshot (State D J)) (v w : View (Snapshot (State D J)) Event) (n lanes : ℕ) → n ≡ lanes → lanes ≡ (core_seen C o v).shape.lanes → MayAllLeave (core_seen C o v) →
+      Left o v w n → Does v w (HaveLeft seen o v w lanes)
+  left_all o v w n lanes is number may p' =
+      let p : Left o v w lanes = subst (λ (x : ℕ). Left o v w x) is p' in
+      let c = core_seen C o v in
+      let d = core_seen C o w in
+      let run = gone_run o v w lanes p in
+      record {
+        events = p.events;
+        went = p.went;
+        says = record {
+          made = p.says;
+          closing = all_gone c d lanes may.rest run number;
+          home = still_home c d lanes may.rest.home run;
+          ready = λ low. ready_then c d lanes may.rest run number low;
+        };
+      }

@@ -54,9 +54,9 @@ module _ {D J : Type 0} (seen : D → DieView) where
     pub home : AreHome (core_seen (core_of seen) o w)
     pub ready : (core_seen (core_of seen) o v).closer ≤ meta_pages (core_seen (core_of seen) o v).shape.blocks → MaySettle (core_seen (core_of seen) o w)
 
-  -- the lanes below some number, from 0 on, made it; the number is no more than that of the lanes
+  -- some lanes made it, from 0 on, and not all
   abbrev pub AreSome : (ℕ → List Event) → Snapshot (State D J) → View (Snapshot (State D J)) Event → View (Snapshot (State D J)) Event → ℕ → List Event → Type 0
-  AreSome these o v w lanes es = (count : ℕ) × (count ≤ lanes) × AreMade o v w (these count) es
+  AreSome these o v w lanes es = (count : ℕ) × (count < lanes) × AreMade o v w (these count) es
 
   -- what is answered when all lanes are to enter
   abbrev pub EnterSays : Snapshot (State D J) → View (Snapshot (State D J)) Event → View (Snapshot (State D J)) Event → ℕ → Result (Unit {0}) Worn → List Event → Type 0

@@ -13,7 +13,7 @@ use system_state::CallJob;
 use turn_cell::{Alone, Worn};
 
 /// All lanes enter, one after the other from 0 on. No lane has entered, no call is in flight, and all dies are at home. At `Worn` some lanes,
-/// from 0 on, have entered.
+/// from 0 on, have entered, and not all.
 pub fn enter_all<D: Die, J: CallJob>(
     alone: &mut Alone<System<D, J>>,
     lanes: u32,

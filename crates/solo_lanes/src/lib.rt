@@ -3,5 +3,7 @@
 #![tactic(auto)]
 
 mod entering;
+mod leaving;
 
 pub use entering::enter_all;
+pub use leaving::leave_all;

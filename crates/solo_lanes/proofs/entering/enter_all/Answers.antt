@@ -28,8 +28,7 @@ returns-in_err-turn_enter-clause-turn g c =
 pub returns-in_err-turn_enter-clause-did : goal.returns-in_err-turn_enter-clause-did
 returns-in_err-turn_enter-clause-did g c =
     let i = c.loop-lane.invariant in
-    let low : c.loop-lane.lane ≤ c.args.lanes = c.loop-lane.auto.lane-end in
-    entered_worn g.D.Die.seen (opening_alone opening_in c.args.alone.now) (view_alone c.args.alone.now) (view_alone c.loop-lane.alone) (view_alone c.turn_enter.new.desk) c.loop-lane.lane c.args.lanes c.from_residual.result c.from_residual.ensures.0 low c.requires.free.2.0 i.2 c.in_err-turn_enter.ensures.went
+    entered_worn g.D.Die.seen (opening_alone opening_in c.args.alone.now) (view_alone c.args.alone.now) (view_alone c.loop-lane.alone) (view_alone c.turn_enter.new.desk) c.loop-lane.lane c.args.lanes c.from_residual.result c.from_residual.ensures.0 c.loop-lane-test.true c.requires.free.2.0 i.2 c.in_err-turn_enter.ensures.went
 
 pub loop-lane-preserved : goal.loop-lane-preserved
 loop-lane-preserved g c =
