@@ -1,10 +1,11 @@
 -- What the tables find for a call is what the core's names find, and where a call that puts bytes ends at most.
 use Rattle.std.proofs.Common.{◌≡◌, ℕ, ◌+◌, ◌≤◌, Bool, true, false, List, [], ◌∷◌, length, Option, Some, None, refl, sym, ap, ◌∙◌, arith}
 use Rattle.std.specs.Prelude.{◌==◌, ◌/◌, ◌-◌, nat_lt, min, map, is_some, option_map, bytes_eq, if◌then◌else◌, IfSome}
-use Rattle.std.specs.List.{All, find}
+use Rattle.std.specs.List.{All, AllByRecursion, find}
 use Rattle.std.proofs.lemmas.List.Elements.{All-head, All-tail}
 use Rattle.page_base.specs.Bytes.{Pages}
 use Rattle.name_table.specs.declared.files.FileRec.{FileRec}
+use Rattle.name_table.specs.Files.{IsFile}
 use Rattle.sbpf_insn.specs.Program.{Program}
 use Rattle.sbpf_insn.specs.Cells.{slots}
 use Rattle.plain_files.specs.declared.calls.Call.{Call}
@@ -19,6 +20,7 @@ use Rattle.system_state.specs.declared.state.Function.{Function as FunctionRow}
 use Rattle.call_checks.specs.Checks as checks
 use Rattle.call_checks.specs.Checks.{row_for, len_or}
 use Rattle.call_checks.proofs.Found.{row_seen}
+use Rattle.call_checks.proofs.Limits.{len_most}
 use Rattle.job_events.specs.Armed.{code_row}
 
 -- ---- the file
@@ -29,6 +31,13 @@ len_seen (Some f) = refl
 
 pub len_found : (rows : List FileRec) (call : Call) → len_or_none (file_for (map cores.file_of rows) call) ≡ len_or (row_for rows call)
 len_found rows call = ap len_or_none (row_seen rows (file_word call)) ∙ len_seen (row_for rows call)
+
+-- a file that is found is no longer than files may be
+pub short_file : (next : ℕ) (rows : List FileRec) (call : Call) (o : Option FileRec) (f : FileRec) → AllByRecursion (IsFile next) rows → o ≡ row_for rows call → o ≡ Some f → f.len ≤ 268435456
+short_file next rows call o f each read is =
+    let m = len_most next rows (file_word call) each in
+    let e : len_or (row_for rows call) ≡ f.len = ap len_or (sym read ∙ is) in
+    omega arith
 
 -- ---- the function
 

@@ -17,25 +17,15 @@ ghost use Rattle.call_job.specs.Prepares.{IsPrepared};
 ghost use Rattle.call_job.specs.Suits.{Suits};
 ghost use Rattle.job_events.specs.Armed.{code_row, HasBegun, HasJob, IsArmed};
 
-use call_checks::{file_for, function_named};
+use crate::tables::len_for;
+use call_checks::function_named;
 use call_job::{Job, Prepared};
 use dispatcher::Side;
 use flash_die::Die;
 use lambda_system::{Begun, NotYet, try_begin};
-use name_table::Names;
 use plain_files::{Call, Word};
 use sbpf_insn::Code;
 use system_state::{Function, State};
-
-/// The length of a call's file.
-fn len_for(names: &Names, call: &Call) -> u32
-    ensures { result ≡ len_or (row_for names.now.files call.now) }
-{
-    match file_for(names, call) {
-        Some(file) => file.len,
-        None => 0,
-    }
-}
 
 /// The code of a function of this name, if it is there.
 fn code_named<'a>(functions: &'a [Function], name: &Word) -> Option<&'a Code>

@@ -18,7 +18,7 @@ arm-requires-clause-short g c =
 pub arm-requires-clause-reach : goal.arm-requires-clause-reach
 arm-requires-clause-reach g c =
     let is = row_is g.D.Die.seen c.args.state.now c.args.lane c.args.job.now c.index.result.now c.in-Some.call c.requires.standing c.requires.begun c.index.ensures c.in-Some.is in
-    reach_now g.D.Die.seen c.args.state.now c.args.lane c.args.job.now c.in-Some.call c.requires.standing c.requires.begun is ∙ ap (core_reach.reach_of c.args.job.now.request.call) (sym c.len_for-len.ensures)
+    reach_now g.D.Die.seen c.args.state.now c.args.lane c.args.job.now c.in-Some.call c.requires.standing c.requires.begun is ∙ ap (core_reach.reach_of c.args.job.now.request.call) (sym c.len_for-len.ensures.value)
 
 pub arm-requires-clause-low : goal.arm-requires-clause-low
 arm-requires-clause-low g c =
@@ -29,18 +29,18 @@ pub arm-requires-clause-lambda : goal.arm-requires-clause-lambda
 arm-requires-clause-lambda g c =
     let is = row_is g.D.Die.seen c.args.state.now c.args.lane c.args.job.now c.index.result.now c.in-Some.call c.requires.standing c.requires.begun c.index.ensures c.in-Some.is in
     lambda_found g.D.Die.seen c.args.state.now c.args.lane c.args.job.now c.in-Some.call c.requires.standing c.requires.begun is c.code_for-code.result c.len_for-len.result
-    (c.code_for-code.ensures ∙ ap (λ (fs : List Function). code_row fs c.args.job.now.request.call) c.deref.ensures.value) c.len_for-len.ensures
+    (c.code_for-code.ensures ∙ ap (λ (fs : List Function). code_row fs c.args.job.now.request.call) c.deref.ensures.value) c.len_for-len.ensures.value
 
 pub arm-requires-clause-code : goal.arm-requires-clause-code
 arm-requires-clause-code g c =
     let is = row_is g.D.Die.seen c.args.state.now c.args.lane c.args.job.now c.index.result.now c.in-Some.call c.requires.standing c.requires.begun c.index.ensures c.in-Some.is in
     code_fits g.D.Die.seen c.args.state.now c.args.lane c.args.job.now c.in-Some.call c.requires.standing c.requires.begun is c.code_for-code.result c.len_for-len.result
-    (c.code_for-code.ensures ∙ ap (λ (fs : List Function). code_row fs c.args.job.now.request.call) c.deref.ensures.value) c.len_for-len.ensures
+    (c.code_for-code.ensures ∙ ap (λ (fs : List Function). code_row fs c.args.job.now.request.call) c.deref.ensures.value) c.len_for-len.ensures.value
 
 pub returns : goal.returns
 returns g c =
     let is = row_is g.D.Die.seen c.args.state.now c.args.lane c.args.job.now c.index.result.now c.in-Some.call c.requires.standing c.requires.begun c.index.ensures c.in-Some.is in
     record {
       job = job_is g.D.Die.seen c.args.state.now c.args.lane c.args.job.now c.in-Some.call c.requires.standing c.requires.begun is c.code_for-code.result c.len_for-len.result
-          (c.code_for-code.ensures ∙ ap (λ (fs : List Function). code_row fs c.args.job.now.request.call) c.deref.ensures.value) c.len_for-len.ensures c.arm.new.self c.arm.ensures.fresh c.arm.ensures.suits;
+          (c.code_for-code.ensures ∙ ap (λ (fs : List Function). code_row fs c.args.job.now.request.call) c.deref.ensures.value) c.len_for-len.ensures.value c.arm.new.self c.arm.ensures.fresh c.arm.ensures.suits;
     }
