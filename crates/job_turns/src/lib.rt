@@ -2,5 +2,7 @@
 #![tactic(auto)]
 
 mod beginning;
+mod ending;
 
 pub use beginning::turn_begin_job;
+pub use ending::turn_end_job;
