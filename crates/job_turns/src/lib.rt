@@ -2,7 +2,9 @@
 #![tactic(auto)]
 
 mod beginning;
+mod collecting;
 mod ending;
 
 pub use beginning::turn_begin_job;
+pub use collecting::turn_collect_job;
 pub use ending::turn_end_job;
