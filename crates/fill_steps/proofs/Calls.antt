@@ -112,9 +112,9 @@ out_leaves c a n lane i x p page = put_call false false c (after c (DieOut a n (
 home_none : (c : Core) (a : Actor) (n lane i : ℕ) (good : Bool) → Coherent c → (c.dies n).out ≡ Some (record { holder = a; errand = ToFill lane i }) → HoldsNone (filled_for c n good lane i) a
 home_none c a n lane i good h e = λ die out is mine.
     ⊎_elim (λ (s : die ≡ n).
-        let z : (put c.dies n (home_filled (c.dies n) good) n).out ≡ None = ap (λ (w : DieState). w.out) (put-same c.dies n (home_filled (c.dies n) good)) in
-        let y : (put c.dies n (home_filled (c.dies n) good) n).out ≡ Some out = ap (λ (k : ℕ). (put c.dies n (home_filled (c.dies n) good) k).out) (sym s) ∙ is in
-        absurd (cc))
+    let z : (put c.dies n (home_filled (c.dies n) good) n).out ≡ None = ap (λ (w : DieState). w.out) (put-same c.dies n (home_filled (c.dies n) good)) in
+    let y : (put c.dies n (home_filled (c.dies n) good) n).out ≡ Some out = ap (λ (k : ℕ). (put c.dies n (home_filled (c.dies n) good) k).out) (sym s) ∙ is in
+    absurd (cc))
     (λ (d : die ≢ n). d (h.dies.one_each die n out (record { holder = a; errand = ToFill lane i }) (sym (ap (λ (w : DieState). w.out) (put-other c.dies n (home_filled (c.dies n) good) die d)) ∙ is) e mine))
     (same_or_not die n)
 
@@ -235,13 +235,13 @@ next_gather encode c a lane i e p turn lowest is open_still =
     record {
       next = subst (IsNext encode lane f.claim.request c) is (⊎_elim
           (λ h.
-              let z : Some (Lane lane) ≡ Some a = sym (ap (owner lane) h.0) ∙ p.owns in
-              let who : Lane lane ≡ a = cc in
-              subst (λ (w : Actor). IsNext encode lane f.claim.request c (gather_event c w lane f i (block_at c lane i))) who (gather_next_host encode c lane i f.claim.request f p.flies h.0 h.1 p.mark lowest))
+          let z : Some (Lane lane) ≡ Some a = sym (ap (owner lane) h.0) ∙ p.owns in
+          let who : Lane lane ≡ a = cc in
+          subst (λ (w : Actor). IsNext encode lane f.claim.request c (gather_event c w lane f i (block_at c lane i))) who (gather_next_host encode c lane i f.claim.request f p.flies h.0 h.1 p.mark lowest))
           (λ w.
-              let z : Some (Worker w.0) ≡ Some a = sym (ap (owner lane) w.1) ∙ p.owns in
-              let who : Worker w.0 ≡ a = cc in
-              subst (λ (x : Actor). IsNext encode lane f.claim.request c (gather_event c x lane f i (block_at c lane i))) who (gather_next_drive encode c lane w.0 i f.claim.request f p.flies w.1 p.mark lowest))
+          let z : Some (Worker w.0) ≡ Some a = sym (ap (owner lane) w.1) ∙ p.owns in
+          let who : Worker w.0 ≡ a = cc in
+          subst (λ (x : Actor). IsNext encode lane f.claim.request c (gather_event c x lane f i (block_at c lane i))) who (gather_next_drive encode c lane w.0 i f.claim.request f p.flies w.1 p.mark lowest))
           turn);
       open_still = open_still;
     }

@@ -61,8 +61,8 @@ suits_page job i w v u fresh within claim phase code readable page others s =
       gathered = λ j p l e.
           ⊎_elim (λ (same : j ≡ i). ap (page_in (slice_set job.pages.items i w)) same ∙ (page_there job.pages.items i w within ∙ page p (ap u.flight.gathered (sym same) ∙ e)))
           (λ (d : j ≢ i).
-              let m : j < v.flight.claim.reach.pages = subst (λ (x : Claim). j < x.reach.pages) claim l in
-              page_elsewhere job.pages.items i j w d ∙ s.gathered j p m (sym (others j d m) ∙ e))
+          let m : j < v.flight.claim.reach.pages = subst (λ (x : Claim). j < x.reach.pages) claim l in
+          page_elsewhere job.pages.items i j w d ∙ s.gathered j p m (sym (others j d m) ∙ e))
           (same_or_not j i);
       result = result_with job i w u.flight.phase fresh (subst (HasResult job) (sym phase) s.result);
     }

@@ -145,8 +145,8 @@ module _ {D J : Type 0} (seen : D → DieView) where
         says = one_tried o v u P a lane i Shared (Copy a lane i) (Some page) acts p t t.says.0 refl refl
             (λ k. let l = copy_leaves c2 a lane i k in (l.0, subst (λ (z : Page). IsSameBut c2 (after c2 (Copy a lane i)) lane i (Some z)) (sym (got.page_is refl)) l.1))
             (λ al turn encode.
-                let here = subst (λ (z : Core). way z lane i ≡ ByPage) (still_alone o v u P t al) got.way_is in
-                next_gather encode c a lane i (Copy a lane i) b.between.owned turn p.lowest (copy_event_is c a lane i (call_at c lane) (block_at c lane i) b.mode_is here) refl);
+            let here = subst (λ (z : Core). way z lane i ≡ ByPage) (still_alone o v u P t al) got.way_is in
+            next_gather encode c a lane i (Copy a lane i) b.between.owned turn p.lowest (copy_event_is c a lane i (call_at c lane) (block_at c lane i) b.mode_is here) refl);
       }
 
   pub taken_page : (o : Snapshot (State D J)) (v u : View (Snapshot (State D J)) Event) (a : Actor) (lane i : ℕ) (old page : Page) → ActsFor C o v a → IsAtPage (core_seen C o v) a lane i Exclusive → Turn C o v u (GatherSays {D = D} (take_event a lane i) lane i old page (Ok None)) → Does v u (PageSays seen o v u a lane i page (Ok Next))
@@ -162,8 +162,8 @@ module _ {D J : Type 0} (seen : D → DieView) where
         says = one_tried o v u P a lane i Exclusive (Take a lane i) (Some page) acts p t t.says.0 refl refl
             (λ k. let l = take_leaves c2 a lane i k in (l.0, subst (λ (z : Page). IsSameBut c2 (after c2 (Take a lane i)) lane i (Some z)) (sym (got.page_is refl)) l.1))
             (λ al turn encode.
-                let here = subst (λ (z : Core). way z lane i ≡ ByPage) (still_alone o v u P t al) got.way_is in
-                next_gather encode c a lane i (Take a lane i) b.between.owned turn p.lowest (take_event_is c a lane i (call_at c lane) (block_at c lane i) b.mode_is here) refl);
+            let here = subst (λ (z : Core). way z lane i ≡ ByPage) (still_alone o v u P t al) got.way_is in
+            next_gather encode c a lane i (Take a lane i) b.between.owned turn p.lowest (take_event_is c a lane i (call_at c lane) (block_at c lane i) b.mode_is here) refl);
       }
 
   -- ---- no event

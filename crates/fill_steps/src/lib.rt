@@ -1,7 +1,11 @@
-//! The pages of a call over a desk.
+//! The pages of a call over a desk: whoever owns the call gathers them into its job, the lowest first.
+//!
+//! A page that is in neither cache is read by its die: the die goes out in one turn, reads without the turn, and comes home in another one.
 #![tactic(auto)]
 
 mod home;
 mod page;
+mod step;
 
 pub use page::FillStep;
+pub use step::fill_step;
