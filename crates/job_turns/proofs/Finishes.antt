@@ -35,10 +35,10 @@ use Rattle.system_state.specs.Cores.{core_of}
 use Rattle.system_state.specs.Jobs.{view_of}
 use Rattle.system_state.specs.declared.state.State.{State}
 use Rattle.desk_turns.specs.Passing.{Turn}
-use Rattle.event_turns.specs.Words.{IsNumbered}
-use Rattle.event_turns.proofs.FlushTurning.{if_ok}
-use Rattle.event_turns.proofs.Keeping.{Again, again, at_flight}
-use Rattle.event_turns.proofs.Numbering.{numbered}
+use Rattle.call_turns.specs.Words.{IsNumbered}
+use Rattle.call_turns.proofs.FlushTurning.{if_ok}
+use Rattle.call_turns.proofs.Keeping.{Again, again, at_flight}
+use Rattle.call_turns.proofs.Numbering.{numbered}
 use Rattle.call_job.specs.Views.{TellsSame}
 use Rattle.call_job.specs.declared.job.Job.{Job}
 use Rattle.call_job.proofs.Kept.{suits_kept}
