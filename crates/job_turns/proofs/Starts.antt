@@ -65,3 +65,14 @@ module _ {D : Type 0} (seen : D → DieView) (s t : State D Job) where
   starts lane request old new (Ok (Ended n)) unmarked made armed same = armed
   starts lane request old new (Ok (Started side span)) unmarked made armed same = has_started lane request side span new unmarked made armed
   starts lane request old new (Err y) unmarked made armed same = same.1
+
+  -- whatever came of it, the job is for the same request
+  pub same_request : (lane : ℕ) (old new : Job) (r : Result Begun NotYet) → IfOk r (λ x. Made seen Suits s (begin_event lane old.request x) t) →
+      IfOk r (λ x. IsArmed (core_of seen t) lane old new x) → IfErr r (λ y. (t ≡ s) × (new ≡ old)) → new.request ≡ old.request
+  same_request lane old new (Ok (Ended n)) made armed same = ap (λ (j : Job). j.request) armed
+  same_request lane old new (Ok (Started side span)) made armed same =
+      let c = core_of seen s in
+      let call : Flight = first_flight c.blocks c.places (claim_for c.names.files old.request side) in
+      let flies : (core_of seen t).calls lane ≡ Some call = ap (λ (d : Core). d.calls lane) made.happens.leaves ∙ put-same c.calls lane (Some call) in
+      armed.suits.request ∙ ap (λ (f : Flight). f.claim.request) (at_flight (core_of seen t).calls lane call flies)
+  same_request lane old new (Err y) made armed same = ap (λ (j : Job). j.request) same.1

@@ -45,6 +45,7 @@ pub fn turn_begin_job<D: Die, K: Desk<System<D, Job>>>(
     ensures went { IfErr result (λ _. Went (K.view desk.old) (K.view desk.new) []) }
     ensures kept { IfErr result (λ _. StillHolds (core_of D.seen) (K.opening desk.old) (K.view desk.old) (K.view desk.new) (Lane lane)) }
     ensures same { IfErr result (λ _. prepared.new ≡ prepared.old) }
+    ensures request { prepared.new.job.request ≡ prepared.old.job.request }
     ensures did { IfOk result (λ x. Turn (core_of D.seen) (K.opening desk.old) (K.view desk.old) (K.view desk.new) (BeginSays lane prepared.old.job.request prepared.new.picked x)) }
     ensures job { IfOk result (λ x. StartSays (core_seen (core_of D.seen) (K.opening desk.old) (K.view desk.new)) lane prepared.old.job prepared.new.job x) }
     ensures numbered { (n : Numbered) → result ≡ Ok (Ok (Ended n)) → IsNumbered (K.opening desk.old).value.last (calls_of (events_of (K.view desk.new).seen)) n.number (record { lane = lane; call = prepared.old.job.request.call; reply = n.reply }) }

@@ -13,7 +13,7 @@ use Rattle.call_turns.proofs.Begins.{begin_did, begin_numbered}
 use Rattle.core_state.specs.State.{Core}
 use Rattle.call_job.specs.Suits.{Suits}
 use Rattle.job_turns.specs.Starting.{StartSays}
-use Rattle.job_turns.proofs.Starts.{given_core, same_state, starts}
+use Rattle.job_turns.proofs.Starts.{given_core, same_state, same_request, starts}
 use Rattle.job_turns.proofs.beginning.turn_begin_job.Goals as goal
 
 pub begin_job-answer-requires-clause-hands : goal.begin_job-answer-requires-clause-hands
@@ -131,6 +131,12 @@ returns-clause-job g c =
     let at = given_core g.D.Die.seen Suits s c.begin_job-answer.new.state p q v u (g.K.Desk.view c.give.new.self) (Lane c.args.lane) ((BeginSays c.args.lane c.args.prepared.now.job.request c.begin_job-answer.new.prepared.picked c.begin_job-answer.result) (core_of g.D.Die.seen s)) f.0 d c.give.ensures.seen in
     subst (λ (z : Core). StartSays z c.args.lane c.args.prepared.now.job c.begin_job-answer.new.prepared.job c.begin_job-answer.result) at
     (starts g.D.Die.seen s c.begin_job-answer.new.state c.args.lane c.args.prepared.now.job.request c.args.prepared.now.job c.begin_job-answer.new.prepared.job c.begin_job-answer.result unmarked c.begin_job-answer.ensures.made c.begin_job-answer.ensures.armed c.begin_job-answer.ensures.same)
+
+pub returns-clause-request : goal.returns-clause-request
+returns-clause-request g c =
+    let s = c.in_ok-system.system.state in
+    let b = c.begin_job-answer in
+    same_request g.D.Die.seen s b.new.state c.args.lane c.args.prepared.now.job b.new.prepared.job b.result b.ensures.made b.ensures.armed b.ensures.same
 
 pub returns-clause-numbered : goal.returns-clause-numbered
 returns-clause-numbered g c =
