@@ -1,6 +1,6 @@
 -- A `sync` begins, and nobody is in its way where it is alone.
-use Rattle.std.proofs.Common.{◌≡◌, ℕ, ◌+◌, ◌<◌, ◌≤◌, Bool, true, false, List, [], ◌∷◌, Option, Some, None, refl, sym, ap, ◌∙◌, subst, arith}
-use Rattle.std.specs.Prelude.{nat_lt, IfSome, if◌then◌else◌, Ok, Err}
+use Rattle.std.proofs.Common.{◌≡◌, ℕ, ◌+◌, ◌≤◌, Bool, true, false, Option, Some, None, refl, ap, arith}
+use Rattle.std.specs.Prelude.{nat_lt, IfSome, if◌then◌else◌}
 use Rattle.std.proofs.lemmas.Bool.Decides.{nat_tests}
 use Rattle.dispatcher.specs.declared.side.Side.{Side}
 use Rattle.dispatcher.specs.declared.side.Side.TheVariants.{Host, Drive}
@@ -12,10 +12,10 @@ use Rattle.plain_files.specs.Plain.{State, early}
 use Rattle.index_lists.proofs.Puts.{put-same}
 use Rattle.core_state.specs.declared.actor.Actor.TheVariants.{Lane}
 use Rattle.core_state.specs.declared.event.Event.TheVariants.{Begin}
-use Rattle.core_state.specs.State.{Shape, Claim, Reach, Flight, Core}
-use Rattle.core_state.specs.Words.{first_to, sum_to}
+use Rattle.core_state.specs.State.{Claim, Flight, Core}
+use Rattle.core_state.specs.Words.{sum_to}
 use Rattle.core_state.specs.Reach.{is_sync, claim_for}
-use Rattle.core_state.specs.Frames.{frames_at, used, weight}
+use Rattle.core_state.specs.Frames.{frames_at, weight}
 use Rattle.core_state.specs.InFlight.{claims, claim_of}
 use Rattle.core_state.specs.LaneEvents.{first_flight, first_frame, MayBegin}
 use Rattle.core_state.specs.PlainOf.{plain}
@@ -24,11 +24,11 @@ use Rattle.core_state.specs.Happens.{HoldsNone, after}
 use Rattle.core_solo.specs.Solo.{IsStep}
 use Rattle.core_solo.proofs.Nexts.{begin_next}
 use Rattle.system_state.specs.declared.not_yet.NotYet.{NotYet}
-use Rattle.system_state.specs.declared.not_yet.NotYet.TheVariants.{NoRoom, Conflict}
+use Rattle.system_state.specs.declared.not_yet.NotYet.TheVariants.{NoRoom}
 use Rattle.system_lanes.specs.Waiting.{awaited_still}
 use Rattle.system_metas.specs.Encode.{encode}
 use Rattle.quick_calls.specs.Begun.{clashes, least_clash, waits_for, begin_waits, used_at, need_of, side_of, claim_at_side}
-use Rattle.quick_calls.specs.Ways.{Way, Waits, Refused, Begins, way_by, begin_way}
+use Rattle.quick_calls.specs.Ways.{Waits, Refused, way_by, begin_way}
 use Rattle.quick_calls.specs.Making.{IsFree}
 use Rattle.quick_calls.proofs.Frees.{awaited_none, first_of_none}
 use Rattle.sync_calls.specs.Stages.{IsInSync}

@@ -1,5 +1,5 @@
 -- A die writes for a `sync`, and comes home.
-use Rattle.std.proofs.Common.{◌≡◌, ℕ, ◌<◌, Bool, false, List, [], ◌∷◌, ◌++◌, refl, sym, ap, ◌∙◌, subst, append-nil}
+use Rattle.std.proofs.Common.{◌≡◌, ℕ, ◌<◌, Bool, false, List, [], ◌∷◌, ◌++◌, sym, ap, ◌∙◌, subst, append-nil}
 use Rattle.std.specs.declared.snapshot.Snapshot.{Snapshot}
 use Rattle.turn_cell.specs.declared.view.View.{View}
 use Rattle.turn_cell.specs.History.{StartsWith}

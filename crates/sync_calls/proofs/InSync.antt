@@ -1,6 +1,6 @@
 -- A `sync` in flight, and what its lane's events leave of it.
-use Rattle.std.proofs.Common.{◌≡◌, ℕ, ◌+◌, ◌<◌, ◌≤◌, Bool, true, false, List, [], ◌∷◌, Option, Some, None, refl, sym, ap, ◌∙◌, subst, ⊎_elim, arith}
-use Rattle.std.specs.Prelude.{◌≢◌, ◌||◌, ◌&&◌, ◌==◌, not, if◌then◌else◌}
+use Rattle.std.proofs.Common.{◌≡◌, ℕ, ◌+◌, ◌<◌, Bool, true, false, Option, Some, None, refl, sym, ap, ◌∙◌, subst, ⊎_elim}
+use Rattle.std.specs.Prelude.{◌≢◌, ◌||◌, not, if◌then◌else◌}
 use Rattle.page_base.specs.Drive.{meta_pages}
 use Rattle.plain_files.specs.declared.calls.Reply.{Reply}
 use Rattle.plain_files.specs.declared.calls.Request.{Request}
@@ -8,15 +8,13 @@ use Rattle.plain_files.specs.Plain.{answer}
 use Rattle.index_lists.specs.Words.{put, one_if}
 use Rattle.index_lists.proofs.Puts.{put-same, put-other}
 use Rattle.index_lists.proofs.Counts.{same_or_not}
-use Rattle.dispatcher.specs.declared.side.Side.{Side}
 use Rattle.core_state.specs.declared.actor.Actor.{Actor}
-use Rattle.core_state.specs.declared.actor.Actor.TheVariants.{Lane, Closer}
-use Rattle.core_state.specs.declared.event.Event.{Event}
-use Rattle.core_state.specs.declared.event.Event.TheVariants.{Begin, End, FlushIn, MetaIn}
-use Rattle.core_state.specs.State.{Page, Shape, LaneState, Claim, Held, Flight, Errand, ToFlush, ToMeta, Out, DieState, Core}
+use Rattle.core_state.specs.declared.actor.Actor.TheVariants.{Lane}
+use Rattle.core_state.specs.declared.event.Event.TheVariants.{End, FlushIn, MetaIn}
+use Rattle.core_state.specs.State.{Page, Shape, LaneState, Claim, Flight, Errand, ToFlush, ToMeta, Out, DieState, Core}
 use Rattle.core_state.specs.Reach.{is_sync, file_for}
 use Rattle.core_state.specs.Dies.{owner, IsSyncing}
-use Rattle.core_state.specs.DieEvents.{die_out, meta_of, marked_if, counted, home_written, stored_by, stored_of, stored}
+use Rattle.core_state.specs.DieEvents.{die_out, meta_of, marked_if, counted, home_written, stored_by, stored_of}
 use Rattle.core_state.specs.PlainOf.{plain}
 use Rattle.core_state.specs.PageEvents.{flight_at}
 use Rattle.core_state.specs.EndEvent.{ended_of, ended_storing, ended_plainly, ended_by_fault, has_changed}

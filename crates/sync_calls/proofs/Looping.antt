@@ -1,9 +1,8 @@
 -- A `sync`, step by step.
-use Rattle.std.proofs.Common.{◌≡◌, ℕ, ◌+◌, ◌*◌, ◌<◌, ◌≤◌, Bool, true, false, List, [], ◌∷◌, ◌++◌, Option, Some, None, refl, sym, ap, ◌∙◌, subst, ⊎_elim, append-nil, arith}
+use Rattle.std.proofs.Common.{◌≡◌, ℕ, ◌+◌, ◌*◌, ◌<◌, ◌≤◌, Bool, true, false, List, [], ◌∷◌, ◌++◌, refl, sym, ap, ◌∙◌, subst, ⊎_elim, append-nil, arith}
 use Rattle.std.specs.Prelude.{◌≢◌, ◌⊎◌, length, Result, Ok, Err}
 use Rattle.std.specs.Result.{IsErr}
 use Rattle.std.specs.declared.snapshot.Snapshot.{Snapshot}
-use Rattle.turn_cell.specs.declared.book.Entry.{Entry}
 use Rattle.turn_cell.specs.declared.view.View.{View}
 use Rattle.turn_cell.specs.declared.pass.Worn.{Worn}
 use Rattle.turn_cell.specs.History.{StartsWith}
@@ -17,11 +16,11 @@ use Rattle.core_state.specs.declared.event.Event.{Event}
 use Rattle.core_state.specs.declared.event.Event.TheVariants.{End}
 use Rattle.core_state.specs.State.{Core}
 use Rattle.core_state.specs.Coherent.{Coherent}
-use Rattle.core_state.specs.Happens.{HoldsNone, May, CoreRun, after_all}
-use Rattle.core_state.specs.History.{calls_of, failures, is_failure}
+use Rattle.core_state.specs.Happens.{HoldsNone, CoreRun, after_all}
+use Rattle.core_state.specs.History.{calls_of, failures}
 use Rattle.core_state.proofs.Runs.{leads_to}
-use Rattle.core_solo.specs.Solo.{Steps, acting, IsStep, IsNext, SoloCall}
-use Rattle.core_solo.specs.Alone.{IsAlone, dies_out}
+use Rattle.core_solo.specs.Solo.{Steps, IsStep, IsNext}
+use Rattle.core_solo.specs.Alone.{IsAlone}
 use Rattle.core_solo.specs.Left.{call_left}
 use Rattle.core_solo.proofs.Asks.{calls_both}
 use Rattle.core_solo.proofs.Bounds.{stepped}
@@ -34,7 +33,7 @@ use Rattle.system_state.specs.Cores.{core_of}
 use Rattle.system_state.specs.declared.state.State.{State}
 use Rattle.system_metas.specs.Encode.{encode}
 use Rattle.desk_turns.specs.Making.{AreOf}
-use Rattle.desk_turns.specs.Passing.{ActsFor, core_after, core_seen, Turn, FoundAt, Went, Does}
+use Rattle.desk_turns.specs.Passing.{ActsFor, core_after, core_seen, Turn, Went, Does}
 use Rattle.desk_turns.proofs.Holding.{coherent_all}
 use Rattle.desk_turns.proofs.Went.{of_on, went_on, went_turn}
 use Rattle.quick_calls.specs.Flushing.{HasFailed}
@@ -42,7 +41,7 @@ use Rattle.quick_calls.proofs.FlushSteps.{failed_on}
 use Rattle.quick_calls.specs.Making.{IsFree}
 use Rattle.quick_calls.proofs.Ending.{idle_at, found_alone, starts_on}
 use Rattle.sync_calls.specs.Stages.{AtStage, is_failed, quiet_left, HasGoneOn, HasWaited, HasReplied, StepSays}
-use Rattle.sync_calls.specs.Sync.{HasSynced, SyncCallSays}
+use Rattle.sync_calls.specs.Sync.{SyncCallSays}
 use Rattle.sync_calls.specs.declared.stages.Stage.{Stage}
 use Rattle.sync_calls.specs.declared.stages.Stage.TheVariants.{Idle, Flush, Store, Failed}
 use Rattle.sync_calls.specs.declared.stages.SyncStep.{SyncStep}
@@ -252,11 +251,11 @@ module _ {D J : Type 0} (seen : D → DieView) where
       Does v w (SyncCallSays seen o v w lane request r)
   worn_on o q v u w lane request count stage x (Ok y) same e p q' = absurd (cc)
   worn_on o q v u w lane request count stage x (Err y) same e p q' =
-      record { events = p.events ++ q'.events; went = went_on v u w p.events q'.events p.went q'.went; says = of_on (Lane lane) p.events q'.events p.says.of q'.says }
+      record { events = p.events ++ q'.events; went = went_on v u w p.events q'.events p.went q'.went; says = (of_on (Lane lane) p.events q'.events p.says.of q'.says.0, calls_both p.events q'.events ∙ (λ i. p.says.silent i ++ q'.says.1 i)) }
 
   pub worn_first : (o : Snapshot (State D J)) (v w : View (Snapshot (State D J)) Event) (lane : ℕ) (request : Request) (r : Result Numbered Worn) → IsErr r → Went v w [] → Does v w (SyncCallSays seen o v w lane request r)
   worn_first o v w lane request (Ok y) e went = absurd (cc)
-  worn_first o v w lane request (Err y) e went = record { events = []; went = went; says = tt }
+  worn_first o v w lane request (Err y) e went = record { events = []; went = went; says = (tt, refl) }
 
   -- ---- alone
 

@@ -1,20 +1,19 @@
 -- The events of a `sync` are those of the run of one thread.
-use Rattle.std.proofs.Common.{◌≡◌, ℕ, ◌+◌, ◌<◌, ◌≤◌, Bool, true, false, List, [], ◌∷◌, Option, Some, None, inl, inr, refl, sym, ap, ◌∙◌, subst, arith}
-use Rattle.std.specs.Prelude.{◌⊎◌, nat_lt, is_some, slice_get, if◌then◌else◌, option_map}
+use Rattle.std.proofs.Common.{◌≡◌, ℕ, Bool, true, false, List, [], ◌∷◌, Some, None, inl, inr, refl, sym, ap, ◌∙◌, subst, arith}
+use Rattle.std.specs.Prelude.{◌⊎◌, nat_lt, is_some, slice_get, if◌then◌else◌}
 use Rattle.std.specs.List.{find}
 use Rattle.std.proofs.lemmas.Bool.Decides.{nat_tests}
 use Rattle.page_base.specs.Drive.{meta_pages}
-use Rattle.dispatcher.specs.declared.side.Side.TheVariants.{Host}
 use Rattle.plain_files.specs.declared.calls.Reply.{Reply}
 use Rattle.plain_files.specs.declared.calls.Reply.TheVariants.{Fault}
 use Rattle.plain_files.specs.declared.calls.Request.{Request}
 use Rattle.plain_files.specs.Plain.{answer}
 use Rattle.core_state.specs.declared.actor.Actor.TheVariants.{Lane}
 use Rattle.core_state.specs.declared.event.Event.{Event}
-use Rattle.core_state.specs.declared.event.Event.TheVariants.{Begin, DieOut, End, FlushOut}
+use Rattle.core_state.specs.declared.event.Event.TheVariants.{DieOut, End, FlushOut}
 use Rattle.core_state.specs.declared.event.Purpose.TheVariants.{Meta}
 use Rattle.core_state.specs.Words.{first_to}
-use Rattle.core_state.specs.State.{Page, Reach, Flight, Core}
+use Rattle.core_state.specs.State.{Page, Reach, Core}
 use Rattle.core_state.specs.Contents.{die_of, die_of_page}
 use Rattle.core_state.specs.DieEvents.{is_flushable, MayMeta}
 use Rattle.core_state.specs.PlainOf.{plain}

@@ -1,11 +1,10 @@
 -- One step of a `sync`: two turns, or one.
-use Rattle.std.proofs.Common.{◌≡◌, ℕ, ◌+◌, ◌<◌, ◌≤◌, Bool, true, false, List, [], ◌∷◌, ◌++◌, Option, Some, None, inl, inr, refl, sym, ap, ◌∙◌, subst, ⊎_elim, append-nil, arith}
-use Rattle.std.specs.Prelude.{◌≢◌, ◌⊎◌, not, is_none, is_some, slice_get, option_map, Result, Ok, Err, IfOk, IfErr}
+use Rattle.std.proofs.Common.{◌≡◌, ℕ, ◌+◌, ◌<◌, ◌≤◌, Bool, true, false, List, [], ◌∷◌, ◌++◌, Option, None, inl, inr, refl, sym, ap, ◌∙◌, subst, append-nil, arith}
+use Rattle.std.specs.Prelude.{not, is_none, is_some, slice_get, option_map, Result, Ok, Err, IfOk, IfErr}
 use Rattle.std.specs.List.{find}
 use Rattle.std.specs.Result.{IsErr}
 use Rattle.std.specs.declared.snapshot.Snapshot.{Snapshot}
 use Rattle.page_base.specs.Drive.{meta_pages}
-use Rattle.turn_cell.specs.declared.book.Entry.{Entry}
 use Rattle.turn_cell.specs.declared.view.View.{View}
 use Rattle.turn_cell.specs.declared.pass.Worn.{Worn}
 use Rattle.turn_cell.specs.Events.{events_of}
@@ -19,20 +18,19 @@ use Rattle.core_state.specs.declared.actor.Actor.TheVariants.{Lane}
 use Rattle.core_state.specs.declared.event.Event.{Event}
 use Rattle.core_state.specs.declared.event.Event.TheVariants.{Begin, DieOut, FlushOut, FlushIn, MetaIn, End}
 use Rattle.core_state.specs.declared.event.Purpose.TheVariants.{Meta}
-use Rattle.core_state.specs.State.{Page, Shape, ToFlush, ToMeta, Core}
+use Rattle.core_state.specs.State.{Page, Shape, ToMeta, Core}
 use Rattle.core_state.specs.Contents.{die_of}
 use Rattle.core_state.specs.Reach.{is_sync}
 use Rattle.core_state.specs.DieEvents.{is_home, is_flushable, flush_of}
 use Rattle.core_state.specs.Coherent.{Coherent}
-use Rattle.core_state.specs.Happens.{HoldsNone, May, CoreRun, Happens, actor_of, is_homecoming, after}
-use Rattle.core_state.specs.History.{and_then, calls_of, entry_of, failures, is_failure, request_of}
-use Rattle.core_solo.specs.Solo.{Steps, acting, IsStep, IsNext}
+use Rattle.core_state.specs.Happens.{HoldsNone, May, CoreRun, Happens, actor_of, after}
+use Rattle.core_state.specs.History.{and_then, calls_of, entry_of, failures, is_failure}
+use Rattle.core_solo.specs.Solo.{Steps, IsStep}
 use Rattle.core_solo.specs.Alone.{IsAlone}
 use Rattle.core_solo.proofs.Flights.{flush_there_of}
 use Rattle.core_solo.proofs.Goes.{still_all}
 use Rattle.core_solo.proofs.Nexts.{home_alone}
 use Rattle.core_solo.proofs.Rooms.{AllHome}
-use Rattle.core_solo.proofs.Steps.{acting_none}
 use Rattle.system_state.specs.Cores.{core_of}
 use Rattle.system_state.specs.declared.errand.Errand.{Errand}
 use Rattle.system_state.specs.declared.not_yet.NotYet.{NotYet}
@@ -45,19 +43,18 @@ use Rattle.desk_turns.specs.Passing.{ActsFor, IsItsOwn, core_after, core_seen, T
 use Rattle.desk_turns.proofs.Holding.{coherent_all, shapes_kept}
 use Rattle.desk_turns.proofs.Later.{none_kept}
 use Rattle.desk_turns.proofs.Went.{went_on, went_turn, found_turn}
-use Rattle.quick_calls.specs.Flushing.{IsFirst, OutSays, HasFailed}
-use Rattle.quick_calls.specs.MetaTurns.{MetaSays, IsMetaBusy, IsUnclean}
+use Rattle.quick_calls.specs.Flushing.{OutSays, HasFailed}
+use Rattle.quick_calls.specs.MetaTurns.{MetaSays}
 use Rattle.quick_calls.specs.BegunAnswer.{Begun}
 use Rattle.quick_calls.specs.BegunAnswer.TheVariants.{Ended, Started}
 use Rattle.quick_calls.specs.MetaAnswer.TheVariants.{Sent, Busy as MetaBusy, Unclean}
 use Rattle.quick_calls.proofs.FlushSteps.{shape_at, acts_on, failed_on}
 use Rattle.quick_calls.specs.Beginning.{BeginSays}
-use Rattle.quick_calls.specs.Ending.{EndSays, sync_reply}
+use Rattle.quick_calls.specs.Ending.{EndSays}
 use Rattle.quick_calls.specs.Making.{IsFree}
-use Rattle.quick_calls.specs.Calls.{IsEndedBy}
 use Rattle.quick_calls.proofs.Ending.{idle_at, found_alone}
 use Rattle.sync_calls.specs.Writes.{BlockBack, PageBack}
-use Rattle.sync_calls.specs.Stages.{IsInSync, AtStage, is_failed, quiet_left, HasGoneOn, HasWaited, HasReplied, IsAtEnd, EndedSays, StepSays, flushed, refused, stored}
+use Rattle.sync_calls.specs.Stages.{IsInSync, AtStage, is_failed, quiet_left, HasGoneOn, HasWaited, HasReplied, AreSilent, IsAtEnd, EndedSays, StepSays, flushed, refused, stored}
 use Rattle.sync_calls.specs.declared.stages.Stage.{Stage}
 use Rattle.sync_calls.specs.declared.stages.Stage.TheVariants.{Idle, Flush, Store, Failed}
 use Rattle.sync_calls.specs.declared.stages.SyncStep.{SyncStep}
@@ -478,7 +475,7 @@ module _ {D J : Type 0} (seen : D → DieView) where
 
   pub end_says : (o : Snapshot (State D J)) (v w : View (Snapshot (State D J)) Event) (lane : ℕ) (request : Request) (fault : Bool) (r : Result Numbered Worn) → ActsFor C o v (Lane lane) → IsAtEnd v.alone (core_seen C o v) lane request fault → IfErr r (λ _. Went v w []) → IfOk r (λ n. Turn C o v w (EndSays lane request fault n)) → Does v w (EndedSays seen o v w lane request fault r)
   end_says o v w lane request fault (Ok n) acts at went did = end_step o v w lane request fault n acts at did
-  end_says o v w lane request fault (Err x) acts at went did = record { events = []; went = went; says = tt }
+  end_says o v w lane request fault (Err x) acts at went did = record { events = []; went = went; says = refl }
 
   -- an end as a step
   pub replied : (o : Snapshot (State D J)) (v w : View (Snapshot (State D J)) Event) (lane : ℕ) (request : Request) (count : ℕ) (stage : Stage) (fault : Bool) (n : Numbered) → is_failed stage ≡ fault → Does v w (EndedSays seen o v w lane request fault (Ok n)) → Does v w (StepSays seen o v w lane request count stage (Ok (Replied n)))
@@ -487,21 +484,21 @@ module _ {D J : Type 0} (seen : D → DieView) where
 
   pub replied_worn : (o : Snapshot (State D J)) (v w : View (Snapshot (State D J)) Event) (lane : ℕ) (request : Request) (count : ℕ) (stage : Stage) (fault : Bool) (x : Worn) (r : Result SyncStep Worn) → IsErr r → Does v w (EndedSays seen o v w lane request fault (Err x)) → Does v w (StepSays seen o v w lane request count stage r)
   replied_worn o v w lane request count stage fault x (Ok y) e p = absurd (cc)
-  replied_worn o v w lane request count stage fault x (Err y) e p = record { events = p.events; went = p.went; says = p.says }
+  replied_worn o v w lane request count stage fault x (Err y) e p = record { events = p.events; went = p.went; says = subst (λ (es : List Event). AreSilent lane es) (sym p.says) (tt, refl) }
 
   -- ---- where the turn is worn
 
   pub step_worn : (o : Snapshot (State D J)) (v w : View (Snapshot (State D J)) Event) (lane : ℕ) (request : Request) (count : ℕ) (stage : Stage) (r : Result SyncStep Worn) → IsErr r → Went v w [] → Does v w (StepSays seen o v w lane request count stage r)
   step_worn o v w lane request count stage (Ok x) e went = absurd (cc)
-  step_worn o v w lane request count stage (Err y) e went = record { events = []; went = went; says = tt }
+  step_worn o v w lane request count stage (Err y) e went = record { events = []; went = went; says = (tt, refl) }
 
-  pub home_worn : (o : Snapshot (State D J)) (v u w : View (Snapshot (State D J)) Event) (lane : ℕ) (request : Request) (count : ℕ) (stage : Stage) (P : Core → List Event → Type 0) (out : Event) (r : Result SyncStep Worn) → IsErr r → (t : Turn C o v u P) → t.events ≡ out ∷ [] → actor_of out ≡ Lane lane → Went u w [] → Does v w (StepSays seen o v w lane request count stage r)
-  home_worn o v u w lane request count stage P out (Ok x) e t is actor went = absurd (cc)
-  home_worn o v u w lane request count stage P out (Err y) e t is actor went =
+  pub home_worn : (o : Snapshot (State D J)) (v u w : View (Snapshot (State D J)) Event) (lane : ℕ) (request : Request) (count : ℕ) (stage : Stage) (P : Core → List Event → Type 0) (out : Event) (r : Result SyncStep Worn) → IsErr r → (t : Turn C o v u P) → t.events ≡ out ∷ [] → actor_of out ≡ Lane lane → entry_of out ≡ None → Went u w [] → Does v w (StepSays seen o v w lane request count stage r)
+  home_worn o v u w lane request count stage P out (Ok x) e t is actor silent went = absurd (cc)
+  home_worn o v u w lane request count stage P out (Err y) e t is actor silent went =
       record {
         events = t.events ++ [];
         went = went_on v u w t.events [] (went_turn C o v u P t) went;
-        says = subst (AreOf (Lane lane)) (sym (append-nil t.events ∙ is)) (actor, tt);
+        says = subst (λ (es : List Event). AreSilent lane es) (sym (append-nil t.events ∙ is)) ((actor, tt), ap (λ (x : Option CallEntry). and_then x []) silent);
       }
 
   -- while a die is out the call is the lane's own

@@ -1,5 +1,5 @@
 -- One step of a `sync` over a desk. This project's own.
-use Rattle.std.specs.Prelude.{◌≡◌, ◌≢◌, ◌⊎◌, ◌<◌, ◌≤◌, ℕ, Bool, true, false, List, [], ◌∷◌, Some, Result, Ok, Err}
+use Rattle.std.specs.Prelude.{◌≡◌, ◌≢◌, ◌⊎◌, ◌<◌, ◌≤◌, ℕ, Bool, true, false, List, [], Some, Result, Ok, Err}
 use Rattle.std.specs.declared.snapshot.Snapshot.{Snapshot}
 use Rattle.turn_cell.specs.declared.view.View.{View}
 use Rattle.turn_cell.specs.declared.pass.Worn.{Worn}
@@ -72,6 +72,10 @@ abbrev pub quiet_left : Stage → ℕ
 quiet_left Flush = 1
 quiet_left _ = 0
 
+-- events of the lane that end no call
+abbrev pub AreSilent : ℕ → List Event → Type 0
+AreSilent lane es = AreOf (Lane lane) es × (calls_of es ≡ [])
+
 module _ {D J : Type 0} (seen : D → DieView) where
   -- The call, which had not failed, has gone on, by events of its lane that end none. A die event failed exactly where the next stage says
   -- so. Where the pass is alone they are the next steps of the run of one thread, and there are some, or fewer quiet steps may follow.
@@ -103,12 +107,12 @@ module _ {D J : Type 0} (seen : D → DieView) where
 
   -- what the end of a call answers, and its events
   abbrev pub EndedSays : Snapshot (State D J) → View (Snapshot (State D J)) Event → View (Snapshot (State D J)) Event → ℕ → Request → Bool → Result Numbered Worn → List Event → Type 0
-  EndedSays o v w lane request fault (Err x) es = AreOf (Lane lane) es
+  EndedSays o v w lane request fault (Err x) es = es ≡ []
   EndedSays o v w lane request fault (Ok n) es = HasReplied o v w lane request fault n es
 
   -- what a step answers, and its events
   abbrev pub StepSays : Snapshot (State D J) → View (Snapshot (State D J)) Event → View (Snapshot (State D J)) Event → ℕ → Request → ℕ → Stage → Result SyncStep Worn → List Event → Type 0
-  StepSays o v w lane request count stage (Err x) es = AreOf (Lane lane) es
+  StepSays o v w lane request count stage (Err x) es = AreSilent lane es
   StepSays o v w lane request count stage (Ok (On next)) es = HasGoneOn o v w lane request count stage next es
   StepSays o v w lane request count stage (Ok (Replied n)) es = HasReplied o v w lane request (is_failed stage) n es
   StepSays o v w lane request count stage (Ok Waits) es = HasWaited o v w lane request count stage es

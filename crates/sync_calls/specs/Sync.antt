@@ -22,6 +22,7 @@ use Rattle.desk_turns.specs.Passing.{core_seen, FoundAt}
 use Rattle.quick_calls.specs.Flushing.{HasFailed}
 use Rattle.quick_calls.specs.Ending.{sync_reply}
 use Rattle.quick_calls.specs.Making.{IsFree}
+use Rattle.sync_calls.specs.Stages.{AreSilent}
 
 module _ {D J : Type 0} (seen : D → DieView) where
   -- A `sync` was made and has ended: by events of its lane, of which the last is its End, in a core in which it might end so. It replies
@@ -42,5 +43,5 @@ module _ {D J : Type 0} (seen : D → DieView) where
 
   -- what a `sync` answers, and its events
   abbrev pub SyncCallSays : Snapshot (State D J) → View (Snapshot (State D J)) Event → View (Snapshot (State D J)) Event → ℕ → Request → Result Numbered Worn → List Event → Type 0
-  SyncCallSays o v w lane request (Err x) es = AreOf (Lane lane) es
+  SyncCallSays o v w lane request (Err x) es = AreSilent lane es
   SyncCallSays o v w lane request (Ok n) es = HasSynced o v w lane request n es

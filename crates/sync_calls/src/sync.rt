@@ -28,7 +28,7 @@ use turn_cell::{Alone, Desk, Seated, Worn};
 
 /// Makes a `sync` of a lane that is free, by way of `page`: flushes blocks until none is unclean, then writes the pages of the meta data, to
 /// the first failure, and replies. `pages` are any, and none of them is used. It waits for the call that it awaits, and where the die of the
-/// next write is out. At `Worn` it has made events of its lane, and its call may be in flight.
+/// next write is out. At `Worn` none of its events has ended a call, and its own may be in flight.
 pub fn sync_call<'a, D: Die, J: CallJob, R: Wait>(
     desk: &mut Seated<'a, System<D, J>, R>,
     lane: u32,

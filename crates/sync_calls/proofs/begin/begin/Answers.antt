@@ -1,8 +1,6 @@
 use Rattle.std.proofs.Common.{inr, sym, subst, ap, ◌∙◌, Ok}
 use Rattle.std.specs.Result.{IsErr}
 use Rattle.page_base.specs.Drive.{meta_pages}
-use Rattle.core_state.specs.declared.actor.Actor.TheVariants.{Lane}
-use Rattle.system_state.specs.Cores.{core_of}
 use Rattle.desk_turns.specs.Passing.{Does}
 use Rattle.sync_calls.specs.declared.stages.Stage.TheVariants.{Idle, Flush}
 use Rattle.sync_calls.specs.Stages.{StepSays}

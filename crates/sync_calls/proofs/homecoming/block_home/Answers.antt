@@ -2,7 +2,6 @@ use Rattle.std.proofs.Common.{◌+◌}
 use Rattle.core_state.specs.declared.actor.Actor.TheVariants.{Lane}
 use Rattle.core_state.specs.State.{ToFlush}
 use Rattle.system_state.specs.Cores.{core_of}
-use Rattle.desk_turns.specs.Passing.{core_seen}
 use Rattle.desk_turns.proofs.Went.{if_err, went_turn}
 use Rattle.quick_calls.proofs.FlushSteps.{wrote_hand}
 use Rattle.sync_calls.specs.Writes.{BlockBack}

@@ -1,7 +1,6 @@
 use Rattle.core_state.specs.declared.actor.Actor.TheVariants.{Lane}
 use Rattle.core_state.specs.State.{ToMeta}
 use Rattle.system_state.specs.Cores.{core_of}
-use Rattle.desk_turns.specs.Passing.{core_seen}
 use Rattle.desk_turns.proofs.Went.{if_err, went_turn}
 use Rattle.quick_calls.proofs.Errands.{stored_hand}
 use Rattle.sync_calls.specs.Writes.{PageBack}

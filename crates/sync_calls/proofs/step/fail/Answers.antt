@@ -1,12 +1,8 @@
-use Rattle.std.proofs.Common.{◌≡◌, ◌<◌, ◌≤◌, true, false, refl, ap, subst, sym, arith}
+use Rattle.std.proofs.Common.{true, refl, subst}
 use Rattle.std.specs.Result.{IsErr}
-use Rattle.std.proofs.lemmas.Bool.Decides.{nat_tests}
 use Rattle.page_base.specs.Drive.{meta_pages}
-use Rattle.system_state.specs.Cores.{core_of}
-use Rattle.desk_turns.specs.Passing.{core_seen}
-use Rattle.sync_calls.specs.Stages.{AtStage, is_failed}
-use Rattle.sync_calls.specs.declared.stages.Stage.TheVariants.{Idle, Flush, Store, Failed}
-use Rattle.sync_calls.proofs.Stepping.{stage_told, all_stored, replied, replied_worn, reply_told}
+use Rattle.sync_calls.specs.declared.stages.Stage.TheVariants.{Failed}
+use Rattle.sync_calls.proofs.Stepping.{replied, replied_worn, reply_told}
 use Rattle.sync_calls.proofs.step.fail.Goals as goal
 
 pub finish-requires-clause-at : goal.finish-requires-clause-at

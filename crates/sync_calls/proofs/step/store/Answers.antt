@@ -1,11 +1,11 @@
-use Rattle.std.proofs.Common.{◌≡◌, ◌<◌, ◌≤◌, false, refl, ap, subst, sym, arith}
+use Rattle.std.proofs.Common.{◌<◌, ◌≤◌, false, refl, subst, arith}
 use Rattle.std.specs.Result.{IsErr}
 use Rattle.std.proofs.lemmas.Bool.Decides.{nat_tests}
 use Rattle.page_base.specs.Drive.{meta_pages}
 use Rattle.system_state.specs.Cores.{core_of}
 use Rattle.desk_turns.specs.Passing.{core_seen}
-use Rattle.sync_calls.specs.Stages.{AtStage, is_failed}
-use Rattle.sync_calls.specs.declared.stages.Stage.TheVariants.{Idle, Flush, Store, Failed}
+use Rattle.sync_calls.specs.Stages.{AtStage}
+use Rattle.sync_calls.specs.declared.stages.Stage.TheVariants.{Store}
 use Rattle.sync_calls.proofs.Stepping.{stage_told, all_stored, replied, replied_worn, reply_told}
 use Rattle.sync_calls.proofs.step.store.Goals as goal
 

@@ -1,4 +1,4 @@
-use Rattle.std.proofs.Common.{◌≡◌, ◌<◌, ◌∙◌, ℕ, inl, refl, sym, subst, Ok}
+use Rattle.std.proofs.Common.{◌≡◌, ◌∙◌, sym, subst}
 use Rattle.std.specs.declared.snapshot.Snapshot.{Snapshot}
 use Rattle.page_base.specs.Drive.{meta_pages}
 use Rattle.turn_cell.specs.Events.{events_of}
@@ -14,7 +14,7 @@ use Rattle.quick_calls.specs.Books.{opening_in}
 use Rattle.quick_calls.specs.Words.{IsNumbered, IsSmall}
 use Rattle.quick_calls.proofs.Ending.{acts_after}
 use Rattle.sync_calls.specs.Stages.{AtStage}
-use Rattle.sync_calls.proofs.Looping.{Going, going_none, on_step, waits_on, reply_on, worn_on, worn_first, step_told, sync_left, on_falls, never_waits}
+use Rattle.sync_calls.proofs.Looping.{Going, going_none, on_step, waits_on, reply_on, worn_on, worn_first, step_told}
 use Rattle.sync_calls.proofs.sync.sync_call.Goals as goal
 
 pub loop-init : goal.loop-init

@@ -1,20 +1,16 @@
-use Rattle.std.proofs.Common.{◌≡◌, ◌<◌, ◌∙◌, ℕ, inl, refl, sym, subst, Ok}
-use Rattle.std.specs.declared.snapshot.Snapshot.{Snapshot}
+use Rattle.std.proofs.Common.{◌≡◌, ◌<◌, ◌∙◌, inl, sym, subst}
 use Rattle.page_base.specs.Drive.{meta_pages}
 use Rattle.turn_cell.specs.Events.{events_of}
-use Rattle.turn_cell.specs.declared.view.View.{View}
 use Rattle.turn_cell.specs.Desks.{view_alone, opening_alone}
 use Rattle.core_state.specs.declared.actor.Actor.TheVariants.{Lane}
-use Rattle.core_state.specs.declared.event.Event.{Event}
 use Rattle.core_state.specs.History.{calls_of}
 use Rattle.system_state.specs.Cores.{core_of}
-use Rattle.system_state.specs.declared.state.State.{State}
-use Rattle.desk_turns.specs.Passing.{ActsFor, core_seen, Does}
+use Rattle.desk_turns.specs.Passing.{ActsFor, core_seen}
 use Rattle.quick_calls.specs.Books.{opening_in}
 use Rattle.quick_calls.specs.Words.{IsNumbered, IsSmall}
 use Rattle.quick_calls.proofs.Ending.{acts_after}
 use Rattle.sync_calls.specs.Stages.{AtStage}
-use Rattle.sync_calls.proofs.Looping.{Going, going_none, on_step, waits_on, reply_on, worn_on, worn_first, step_told, sync_left, on_falls, never_waits}
+use Rattle.sync_calls.proofs.Looping.{going_none, on_step, reply_on, worn_on, worn_first, step_told, sync_left, on_falls, never_waits}
 use Rattle.sync_calls.proofs.sync.sync_call_alone.Goals as goal
 
 pub loop-step-init : goal.loop-step-init

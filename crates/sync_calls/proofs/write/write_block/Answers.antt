@@ -79,7 +79,7 @@ returns-in_err-good-in-Ok-clause-did g c = λ request at.
     let u = g.K.Desk.view c.turn_flush_out.new.desk in
     let w = g.K.Desk.view c.block_home.new.desk in
     let t = subst (λ r. Turn (core_of g.D.Die.seen) o v u (OutSays (Lane c.args.lane) c.turn_flush_out.new.into r)) c.in-Ok.is c.in_ok-answer.ensures.did in
-    home_worn g.D.Die.seen o v u w c.args.lane request (meta_pages o.value.sizes.blocks) Flush (OutSays (Lane c.args.lane) c.turn_flush_out.new.into (Ok e)) (FlushOut (Lane c.args.lane) e.number e.subject) c.from_residual-in_err-good-in-Ok.result c.from_residual-in_err-good-in-Ok.ensures.0 t t.says.0 refl c.in_err-good-in-Ok.ensures.went
+    home_worn g.D.Die.seen o v u w c.args.lane request (meta_pages o.value.sizes.blocks) Flush (OutSays (Lane c.args.lane) c.turn_flush_out.new.into (Ok e)) (FlushOut (Lane c.args.lane) e.number e.subject) c.from_residual-in_err-good-in-Ok.result c.from_residual-in_err-good-in-Ok.ensures.0 t t.says.0 refl refl c.in_err-good-in-Ok.ensures.went
 
 pub returns-in_ok-good-in-Ok-clause-open_still : goal.returns-in_ok-good-in-Ok-clause-open_still
 returns-in_ok-good-in-Ok-clause-open_still g c = λ n is. flushed_told c.in_ok-good-in-Ok.good c.flushed.result n c.flushed.ensures is

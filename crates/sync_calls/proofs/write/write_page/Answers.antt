@@ -9,7 +9,7 @@ use Rattle.system_state.specs.Cores.{core_of}
 use Rattle.desk_turns.specs.Passing.{ActsFor, IsItsOwn, core_seen, Turn, Does}
 use Rattle.quick_calls.specs.Flushing.{IsInHand}
 use Rattle.quick_calls.specs.MetaTurns.{MetaSays}
-use Rattle.quick_calls.specs.MetaAnswer.TheVariants.{Sent, Busy, Unclean}
+use Rattle.quick_calls.specs.MetaAnswer.TheVariants.{Sent}
 use Rattle.quick_calls.proofs.FlushSteps.{acts_on}
 use Rattle.sync_calls.specs.Stages.{StepSays}
 use Rattle.sync_calls.specs.declared.stages.Stage.TheVariants.{Store}
@@ -88,7 +88,7 @@ returns-in_err-good-in-Sent-clause-did g c = λ request at.
     let u = g.K.Desk.view c.turn_meta_out.new.desk in
     let w = g.K.Desk.view c.page_home.new.desk in
     let t = subst (λ r. Turn (core_of g.D.Die.seen) o v u (MetaSays (Lane c.args.lane) c.args.number c.turn_meta_out.new.into r)) c.in-Sent.is c.in_ok-out.ensures.did in
-    home_worn g.D.Die.seen o v u w c.args.lane request (meta_pages o.value.sizes.blocks) (Store c.args.number) (MetaSays (Lane c.args.lane) c.args.number c.turn_meta_out.new.into (Sent e)) (DieOut (Lane c.args.lane) e.number (Meta c.args.number c.turn_meta_out.new.into)) c.from_residual-in_err-good-in-Sent.result c.from_residual-in_err-good-in-Sent.ensures.0 t t.says.0 refl c.in_err-good-in-Sent.ensures.went
+    home_worn g.D.Die.seen o v u w c.args.lane request (meta_pages o.value.sizes.blocks) (Store c.args.number) (MetaSays (Lane c.args.lane) c.args.number c.turn_meta_out.new.into (Sent e)) (DieOut (Lane c.args.lane) e.number (Meta c.args.number c.turn_meta_out.new.into)) c.from_residual-in_err-good-in-Sent.result c.from_residual-in_err-good-in-Sent.ensures.0 t t.says.0 refl refl c.in_err-good-in-Sent.ensures.went
 
 pub returns-in_ok-good-in-Sent-clause-open_still : goal.returns-in_ok-good-in-Sent-clause-open_still
 returns-in_ok-good-in-Sent-clause-open_still g c = λ n is. stored_told c.in_ok-good-in-Sent.good (c.args.number + 1) c.stored.result n c.stored.ensures is
