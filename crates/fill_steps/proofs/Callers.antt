@@ -1,5 +1,5 @@
 -- What callers know before the pages of a call are gathered, and after.
-use Rattle.std.proofs.Common.{◌≡◌, ℕ, ◌<◌, Bool, true, false, Option, Some, None, refl, sym, ap, ◌∙◌, subst, arith}
+use Rattle.std.proofs.Common.{◌≡◌, ℕ, ◌<◌, true, false, Some, None, sym, ap, ◌∙◌, subst, arith}
 use Rattle.core_state.specs.declared.actor.Actor.{Actor}
 use Rattle.core_state.specs.declared.actor.Actor.TheVariants.{Worker}
 use Rattle.core_state.specs.State.{Phase, Held, Queued, Running, Reported, Flight, Core}

@@ -14,7 +14,7 @@ use Rattle.core_state.specs.declared.event.Purpose.TheVariants.{Fill}
 use Rattle.core_state.specs.State.{Page, Claim, Mode, Shared, Exclusive, Flight, Core}
 use Rattle.core_state.specs.Dies.{owner}
 use Rattle.core_state.specs.Coherent.{Coherent}
-use Rattle.core_state.specs.Happens.{HoldsNone, CoreRun, actor_of, is_homecoming, after}
+use Rattle.core_state.specs.Happens.{HoldsNone, CoreRun, actor_of, after}
 use Rattle.core_state.specs.History.{entry_of, and_then, calls_of}
 use Rattle.core_solo.specs.Solo.{Steps, IsStep, gather_event}
 use Rattle.system_state.specs.Cores.{core_of}
@@ -25,7 +25,7 @@ use Rattle.system_pages.specs.Ways.{way}
 use Rattle.system_pages.specs.declared.ways.Way.TheVariants.{ByPage, ByDie, Busy}
 use Rattle.system_pages.specs.Events.{copy_event, take_event}
 use Rattle.desk_turns.specs.Making.{AreOf}
-use Rattle.desk_turns.specs.Passing.{ActsFor, core_after, core_seen, Turn, FoundAt, Went, Does}
+use Rattle.desk_turns.specs.Passing.{ActsFor, core_after, core_seen, Turn, Went, Does}
 use Rattle.desk_turns.proofs.Later.{none_kept}
 use Rattle.desk_turns.proofs.Went.{went_on, went_turn, found_turn}
 use Rattle.event_turns.specs.Flushing.{HasFailed}
