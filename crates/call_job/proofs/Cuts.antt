@@ -1,12 +1,12 @@
 -- The end of a call that sets a length.
-use Rattle.std.proofs.Common.{◌≡◌, ℕ, ◌+◌, ◌-◌, ◌*◌, ◌<◌, ◌≤◌, Bool, true, false, List, [], length, get_or, Option, Some, None, refl, sym, ap, ◌∙◌, subst, arith}
-use Rattle.std.specs.Prelude.{◌==◌, ◌&&◌, ◌/◌, ◌%◌, ◌^◌, nat_lt, not, is_some, if◌then◌else◌}
+use Rattle.std.proofs.Common.{◌≡◌, ℕ, ◌<◌, ◌≤◌, Bool, true, false, List, length, Option, Some, None, refl, sym, ap, ◌∙◌, subst, arith}
+use Rattle.std.specs.Prelude.{◌==◌, ◌&&◌, ◌%◌, ◌^◌, nat_lt, not, is_some, if◌then◌else◌}
 use Rattle.page_base.specs.Bytes.{cleared_from}
 use Rattle.plain_files.specs.declared.calls.Call.{Call}
 use Rattle.plain_files.specs.declared.calls.Call.TheVariants.{Trunc}
-use Rattle.plain_files.specs.declared.calls.Reply.TheVariants.{Done, NoSpace}
+use Rattle.plain_files.specs.declared.calls.Reply.TheVariants.{Done}
 use Rattle.plain_files.specs.declared.calls.Request.{Request}
-use Rattle.core_state.specs.State.{Page, Flight, Core, Reach as CoreReach}
+use Rattle.core_state.specs.State.{Flight, Core, Reach as CoreReach}
 use Rattle.core_state.specs.Reach as core_reach
 use Rattle.core_state.specs.Reach.{is_exclusive, is_trunc, gathers, trunc_reach}
 use Rattle.core_state.specs.Hold.{len_for}
@@ -15,7 +15,7 @@ use Rattle.core_state.specs.LaneEvents.{HasGathered}
 use Rattle.system_state.specs.Cores.{reach_of}
 use Rattle.system_state.specs.Jobs.{view_of}
 use Rattle.span_bytes.specs.Spans.{page_in}
-use Rattle.call_answers.specs.Ends.{filled, has_room, EndsAs, Cuts}
+use Rattle.call_answers.specs.Ends.{filled, has_room, EndsAs}
 use Rattle.call_answers.proofs.Cutting.{cuts_end}
 use Rattle.call_job.specs.Puts.{stored_reply, stored_len}
 use Rattle.call_job.specs.Suits.{IsReady, Suits}

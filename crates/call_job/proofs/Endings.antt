@@ -1,6 +1,6 @@
 -- A job's pages are those of its call's span, and its result is that of its function.
-use Rattle.std.proofs.Common.{◌≡◌, ℕ, ◌+◌, ◌<◌, ◌≤◌, Bool, true, false, List, [], length, Option, Some, None, refl, sym, ap, ◌∙◌, subst, arith, unwrap_or}
-use Rattle.std.specs.Prelude.{◌≢◌, ◌-◌, ◌*◌, ◌%◌, ◌||◌, min, is_some, option_map}
+use Rattle.std.proofs.Common.{◌≡◌, ℕ, ◌+◌, ◌<◌, ◌≤◌, true, List, [], length, Option, Some, None, refl, sym, ap, ◌∙◌, subst, arith, unwrap_or}
+use Rattle.std.specs.Prelude.{◌-◌, ◌*◌, ◌%◌, min, is_some, option_map}
 use Rattle.sbpf_insn.specs.Machine as machine
 use Rattle.sbpf_insn.specs.declared.insn.Insn.{Insn}
 use Rattle.sbpf_exec.specs.declared.interpreter.Outcome.{Outcome}
@@ -10,13 +10,12 @@ use Rattle.plain_files.specs.declared.calls.Call.TheVariants.{Read, Readl, Write
 use Rattle.plain_files.specs.declared.calls.Reply.{Reply}
 use Rattle.plain_files.specs.declared.calls.Reply.TheVariants.{DataBytes}
 use Rattle.plain_files.specs.declared.calls.Request.{Request}
-use Rattle.plain_files.specs.Plain.{is_too_long, answer}
-use Rattle.core_state.specs.State.{Page, Flight, Core, Reach as CoreReach}
+use Rattle.plain_files.specs.Plain.{answer}
+use Rattle.core_state.specs.State.{Flight, Core, Reach as CoreReach}
 use Rattle.core_state.specs.Contents.{contents, page_of, span_block}
 use Rattle.core_state.specs.Reach as core_reach
 use Rattle.core_state.specs.Reach.{is_lambda, is_read, gathers, read_reach}
 use Rattle.core_state.specs.PlainOf.{plain, outcome_of, used_of, fuel_of}
-use Rattle.core_state.specs.Hold.{readable_seen, len_for}
 use Rattle.core_state.specs.Coherent.{Coherent}
 use Rattle.core_state.specs.LaneEvents.{HasGathered}
 use Rattle.core_outcomes.specs.Known.{paged_bytes, run_on}
@@ -29,8 +28,8 @@ use Rattle.call_answers.proofs.Replies.{read_is, readl_reply}
 use Rattle.call_job.specs.Buffers.{readable_in, HasRest}
 use Rattle.call_job.specs.Suits.{put_out, given, IsReady, Suits}
 use Rattle.call_job.specs.declared.job.Job.{Job}
-use Rattle.call_job.proofs.Pools.{pool_enough, read_has, read_long, has_fits}
-use Rattle.call_job.proofs.Executed.{pool_has, pages_is}
+use Rattle.call_job.proofs.Pools.{read_has, read_long, has_fits}
+use Rattle.call_job.proofs.Executed.{pool_has}
 
 -- ---- pages
 

@@ -1,14 +1,14 @@
 -- The buffers of a call: its pages are enough, and it has the rest.
-use Rattle.std.proofs.Common.{◌≡◌, ℕ, ◌+◌, ◌-◌, ◌<◌, ◌≤◌, Bool, true, false, List, [], length, Option, Some, None, refl, sym, ap, ◌∙◌, ⊎_elim, arith}
-use Rattle.std.specs.Prelude.{◌==◌, ◌||◌, ◌&&◌, ◌/◌, ◌%◌, ◌*◌, not, nat_lt, min, if◌then◌else◌}
+use Rattle.std.proofs.Common.{◌≡◌, ℕ, ◌+◌, ◌-◌, ◌<◌, ◌≤◌, Bool, true, false, length, None, refl, ap, ◌∙◌, arith}
+use Rattle.std.specs.Prelude.{◌==◌, ◌&&◌, ◌/◌, ◌%◌, ◌*◌, not, nat_lt, min, if◌then◌else◌}
 use Rattle.std.proofs.lemmas.Bool.Decides.{nat_tests}
 use Rattle.std.proofs.lemmas.List.{length-replicate}
 use Rattle.page_base.specs.Bytes.{Pages}
 use Rattle.plain_files.specs.declared.calls.Call.{Call}
-use Rattle.plain_files.specs.declared.calls.Call.TheVariants.{Create, OpenFile, Stat, Remove, Read, Write, Append, Trunc, Seal, Load, Unload, Readl, Writel, Sync}
+use Rattle.plain_files.specs.declared.calls.Call.TheVariants.{Read, Write, Append, Trunc, Readl, Writel}
 use Rattle.core_state.specs.State.{Shared, Exclusive, Reach}
 use Rattle.core_state.specs.Reach.{no_reach, read_reach, write_reach, trunc_reach, reach_of}
-use Rattle.call_job.specs.Buffers.{most_pages, pool_of, HasParam, HasRest}
+use Rattle.call_job.specs.Buffers.{most_pages, pool_of, HasRest}
 use Rattle.call_job.specs.Prepares.{second_of, flat_of, data_of, AreRegions, room_of}
 use Rattle.call_job.specs.declared.job.Job.{Job}
 

@@ -1,16 +1,15 @@
 -- The end of a call that puts bytes.
-use Rattle.std.proofs.Common.{◌≡◌, ℕ, ◌+◌, ◌-◌, ◌*◌, ◌<◌, ◌≤◌, Bool, true, false, List, [], length, get_or, Option, Some, None, refl, sym, ap, ◌∙◌, subst, ⊎_elim, arith}
-use Rattle.std.specs.Prelude.{◌==◌, ◌/◌, ◌%◌, ◌^◌, ◌⊎◌, nat_lt, not, min, is_some, if◌then◌else◌}
+use Rattle.std.proofs.Common.{◌≡◌, ℕ, ◌+◌, ◌-◌, ◌*◌, ◌<◌, ◌≤◌, Bool, true, false, List, length, get_or, Option, Some, None, refl, sym, ap, ◌∙◌, subst, ⊎_elim, arith}
+use Rattle.std.specs.Prelude.{◌==◌, ◌/◌, ◌%◌, ◌^◌, nat_lt, not, min, is_some, if◌then◌else◌}
 use Rattle.std.proofs.lemmas.Bool.Decides.{nat_tests}
 use Rattle.page_base.specs.Bytes.{Pages, Put}
 use Rattle.plain_files.specs.declared.calls.Call.{Call}
 use Rattle.plain_files.specs.declared.calls.Call.TheVariants.{Write, Append}
 use Rattle.plain_files.specs.declared.calls.Reply.{Reply}
-use Rattle.plain_files.specs.declared.calls.Reply.TheVariants.{Done, At, NoSpace}
+use Rattle.plain_files.specs.declared.calls.Reply.TheVariants.{Done, At}
 use Rattle.plain_files.specs.declared.calls.Request.{Request}
 use Rattle.plain_files.specs.Plain.{is_long, is_too_long, bytes_in, effect, stored}
-use Rattle.core_state.specs.State.{Page, Exclusive, Flight, Core, Reach as CoreReach}
-use Rattle.core_state.specs.Contents.{contents, page_of, span_block}
+use Rattle.core_state.specs.State.{Exclusive, Flight, Core, Reach as CoreReach}
 use Rattle.core_state.specs.Reach as core_reach
 use Rattle.core_state.specs.Reach.{file_word, is_exclusive, no_reach, write_reach, covers, gathers}
 use Rattle.core_state.specs.PlainOf.{plain}
@@ -22,7 +21,7 @@ use Rattle.system_state.specs.Cores.{reach_of}
 use Rattle.system_state.specs.Jobs.{view_of}
 use Rattle.span_bytes.specs.Spans.{page_in, over}
 use Rattle.call_answers.specs.Ends.{filled, put_length, has_room, EndsAs, Puts}
-use Rattle.call_answers.proofs.Found.{Finds, finds}
+use Rattle.call_answers.proofs.Found.{finds}
 use Rattle.call_answers.proofs.Stored.{put_ends}
 use Rattle.call_job.specs.Puts.{puts_bytes, stored_reply, stored_len}
 use Rattle.call_job.specs.Suits.{IsReady, Suits}
@@ -39,7 +38,7 @@ pub record Asked (job : Job) (off : ℕ) (bytes : List ℕ) : Type 0 where
   pub low : 0 < length bytes → off + length bytes ≤ 2 ^ 28
   pub short : length bytes ≤ 262144
 
-ends_low : (job : Job) (r : IsReady job) (off n len : ℕ) → reach_of job.reach ≡ write_reach off n len → 0 < n → off + n ≤ 2 ^ 28
+pub ends_low : (job : Job) (r : IsReady job) (off n len : ℕ) → reach_of job.reach ≡ write_reach off n len → 0 < n → off + n ≤ 2 ^ 28
 ends_low job r off n len e l = go (n == 0) refl e
   where
     w : Bool → CoreReach

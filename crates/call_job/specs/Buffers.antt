@@ -1,5 +1,5 @@
 -- The buffers of a call: as many pages as its bytes can meet, and what its function reads and writes besides. This project's own.
-use Rattle.std.specs.Prelude.{◌≡◌, ◌≢◌, ℕ, ◌+◌, ◌-◌, ◌*◌, ◌/◌, ◌%◌, ◌<◌, ◌≤◌, ◌==◌, Bool, min, List, length, get_or, replicate, if◌then◌else◌, Option, Some, None}
+use Rattle.std.specs.Prelude.{◌≡◌, ◌≢◌, ℕ, ◌+◌, ◌-◌, ◌*◌, ◌/◌, ◌%◌, ◌<◌, ◌≤◌, ◌==◌, min, List, length, get_or, replicate, if◌then◌else◌, Option, Some, None}
 use Rattle.sbpf_exec.specs.declared.regions.Regions.{Regions}
 use Rattle.sbpf_exec.specs.Parts.{param_of}
 use Rattle.plain_files.specs.declared.calls.Call.{Call}

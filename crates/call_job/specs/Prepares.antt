@@ -1,5 +1,5 @@
 -- What a call has before it begins. This project's own.
-use Rattle.std.specs.Prelude.{◌≡◌, ℕ, false, List, [], replicate, Option, Some, None, if◌then◌else◌}
+use Rattle.std.specs.Prelude.{◌≡◌, ℕ, false, List, [], replicate, Option, None, if◌then◌else◌}
 use Rattle.sbpf_exec.specs.declared.regions.Regions.{Regions}
 use Rattle.plain_files.specs.declared.calls.Call.{Call}
 use Rattle.plain_files.specs.declared.calls.Call.TheVariants.{Read, Readl, Writel}

@@ -33,7 +33,7 @@ pub(crate) fn has_room(pages: u64, capacity: u32, old: u32, new: u32) -> bool
 }
 
 /// How long a file is once so many bytes are put at an offset.
-fn put_length(len: u32, off: u64, n: usize) -> u32
+pub(crate) fn put_length(len: u32, off: u64, n: usize) -> u32
     requires len { len ≤ 2 ^ 28 }
     requires end { 0 < n → off + n ≤ 2 ^ 28 }
     ensures value { result ≡ put_length len off n }

@@ -6,10 +6,13 @@ mod copies;
 mod cutting;
 mod ending;
 mod execution;
+mod finishing;
 mod job;
+pub mod laws;
 mod preparing;
 mod reading;
 mod storing;
+mod writing;
 
 pub use job::Job;
 pub use preparing::{PrepareErr, Prepared};

@@ -30,6 +30,7 @@ impl Job {
         requires room { self.old.readable ≤ length self.old.data.items }
         ensures reply { result ≡ DataBytes (paged_bytes (page_in self.old.pages.items) (off % 4096) self.old.readable) }
         ensures pages { self.new.pages.items ≡ self.old.pages.items }
+        ensures request { self.new.request ≡ self.old.request }
     {
         let data = mem::replace(&mut self.data, Vec::new(self.alloc));
         let start = (off % 4096) as usize;
@@ -43,6 +44,7 @@ impl Job {
         ensures reply { (r : Outcome) → self.old.ran ≡ Some r → result.reply ≡ read_reply cap (ended_as r self.old.flat) }
         ensures used { (r : Outcome) → self.old.ran ≡ Some r → result.used ≡ used_of (ended_as r self.old.flat) fuel }
         ensures pages { self.new.pages.items ≡ self.old.pages.items }
+        ensures request { self.new.request ≡ self.old.request }
     {
         let output = mem::replace(&mut self.flat, Bytes::new(Vec::new(self.alloc)));
         let Some(outcome) = self.ran else {
@@ -64,6 +66,7 @@ impl Job {
         ensures used { (c : Core) (call : Flight) → self.old.request ≡ call.claim.request → is_lambda call.claim.request.call ≡ true → given self.old ≡ Some (outcome_of (plain c) call.claim.request.call) →
             result.used ≡ used_of (outcome_of (plain c) call.claim.request.call) (fuel_of call.claim.request.call) }
         ensures pages { self.new.pages.items ≡ self.old.pages.items }
+        ensures request { self.new.request ≡ self.old.request }
     {
         match &self.request.call {
             Call::Read(_, off, _) => {

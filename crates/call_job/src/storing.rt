@@ -1,5 +1,5 @@
 //! The end of a call that puts bytes into its file.
-ghost use Rattle.std.specs.Prelude.{◌≡◌, ◌<◌, ◌≤◌, ◌^◌, ℕ, true, Some};
+ghost use Rattle.std.specs.Prelude.{◌≡◌, ◌<◌, ◌≤◌, ◌^◌, ℕ, length, true, Some};
 ghost use Rattle.core_state.specs.State.{Flight, Core};
 ghost use Rattle.core_state.specs.Hold.{len_for};
 ghost use Rattle.core_state.specs.Coherent.{Coherent};
@@ -63,6 +63,8 @@ impl Job {
         requires in_use { in_use ≤ 2 ^ 32 }
         ensures ends { (c : Core) (lane : ℕ) (call : Flight) → Coherent c → c.calls lane ≡ Some call → HasGathered call → Suits self.old (view_of c.names call) → len ≡ len_for c.names call.claim →
             in_use ≡ filled c.names.files → capacity ≡ c.shape.blocks → EndsAs c call result.ending.reply result.len self.new.pages.items }
+        ensures many { length self.new.pages.items ≡ length self.old.pages.items }
+        ensures request { self.new.request ≡ self.old.request }
     {
         match &self.request.call {
             Call::Write(_, off, bytes) => {

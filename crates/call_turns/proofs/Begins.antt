@@ -22,15 +22,15 @@ use Rattle.system_state.specs.Stands.{Stands}
 use Rattle.system_state.specs.declared.not_yet.NotYet.{NotYet}
 use Rattle.system_state.specs.declared.not_yet.NotYet.TheVariants.{NoRoom}
 use Rattle.system_state.specs.declared.state.State.{State}
-use Rattle.event_turns.specs.BegunAnswer.{Begun}
-use Rattle.event_turns.specs.BegunAnswer.TheVariants.{Ended, Started}
-use Rattle.event_turns.specs.Begun.{side_of}
-use Rattle.event_turns.specs.Ways.{begin_way, way_of, begin_event, IsNext}
+use Rattle.page_steps.specs.BegunAnswer.{Begun}
+use Rattle.page_steps.specs.BegunAnswer.TheVariants.{Ended, Started}
+use Rattle.page_steps.specs.Begun.{side_of}
+use Rattle.page_steps.specs.Ways.{begin_way, way_of, begin_event, IsNext}
 use Rattle.desk_turns.specs.Passing.{Turn}
-use Rattle.event_turns.proofs.FlushTurning.{if_ok}
-use Rattle.event_turns.specs.Words.{IsNumbered}
-use Rattle.event_turns.proofs.Taking.{DidAt, one_at, none_at}
-use Rattle.event_turns.proofs.Numbering.{numbered}
+use Rattle.page_steps.proofs.FlushTurning.{if_ok}
+use Rattle.page_steps.specs.Words.{IsNumbered}
+use Rattle.page_steps.proofs.Taking.{DidAt, one_at, none_at}
+use Rattle.page_steps.proofs.Numbering.{numbered}
 use Rattle.call_turns.specs.Beginning.{BeginSays}
 
 begin_mine : (lane : ℕ) (request : Request) (b : Begun) → actor_of (begin_event lane request b) ≡ Lane lane

@@ -2,3 +2,15 @@ pub mod Begins
 pub mod Syncs
 pub mod Quicks
 pub mod Wanting
+pub use Rattle.page_steps.proofs.Moves
+pub use Rattle.page_steps.proofs.Taking
+pub use Rattle.page_steps.proofs.Keeping
+pub use Rattle.page_steps.proofs.Numbering
+pub use Rattle.page_steps.proofs.Answering
+pub use Rattle.page_steps.proofs.Errands
+pub use Rattle.page_steps.proofs.Nexts
+pub use Rattle.page_steps.proofs.Waiting
+pub use Rattle.page_steps.proofs.FlushTurning
+pub use Rattle.page_steps.proofs.FlushSteps
+pub use Rattle.page_steps.proofs.FlushHands
+pub use Rattle.page_steps.proofs.FlushKnown

@@ -19,13 +19,13 @@ use Rattle.system_state.specs.Cores.{core_of}
 use Rattle.system_state.specs.Stands.{Stands}
 use Rattle.system_state.specs.declared.not_yet.NotYet.{NotYet}
 use Rattle.system_state.specs.declared.state.State.{State}
-use Rattle.event_turns.specs.LoadingOf.{Loading}
-use Rattle.event_turns.specs.QuickWaits.{quick_waits}
+use Rattle.page_steps.specs.LoadingOf.{Loading}
+use Rattle.page_steps.specs.QuickWaits.{quick_waits}
 use Rattle.desk_turns.specs.Passing.{Turn}
-use Rattle.event_turns.proofs.FlushTurning.{if_ok}
-use Rattle.event_turns.specs.Words.{IsNumbered}
-use Rattle.event_turns.proofs.Taking.{DidAt, one_at, none_at}
-use Rattle.event_turns.proofs.Numbering.{numbered}
+use Rattle.page_steps.proofs.FlushTurning.{if_ok}
+use Rattle.page_steps.specs.Words.{IsNumbered}
+use Rattle.page_steps.proofs.Taking.{DidAt, one_at, none_at}
+use Rattle.page_steps.proofs.Numbering.{numbered}
 use Rattle.call_turns.specs.Quick.{QuickSays}
 
 module _ {D J : Type 0} (seen : D → DieView) (suits : J → JobView → Type 0) where

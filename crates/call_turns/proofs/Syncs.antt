@@ -33,10 +33,10 @@ use Rattle.system_state.specs.Jobs.{JobView}
 use Rattle.system_state.specs.Cores.{core_of}
 use Rattle.system_state.specs.declared.state.State.{State}
 use Rattle.desk_turns.specs.Passing.{Turn}
-use Rattle.event_turns.proofs.FlushTurning.{if_ok}
-use Rattle.event_turns.specs.Words.{IsNumbered}
-use Rattle.event_turns.proofs.Keeping.{again, at_flight}
-use Rattle.event_turns.proofs.Numbering.{numbered}
+use Rattle.page_steps.proofs.FlushTurning.{if_ok}
+use Rattle.page_steps.specs.Words.{IsNumbered}
+use Rattle.page_steps.proofs.Keeping.{again, at_flight}
+use Rattle.page_steps.proofs.Numbering.{numbered}
 use Rattle.call_turns.specs.Ending.{EndsSync, EndSays, sync_reply}
 use Rattle.core_state.specs.Dies.{owner}
 

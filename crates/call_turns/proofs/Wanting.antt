@@ -13,8 +13,8 @@ use Rattle.core_solo.specs.Solo.{is_wanting, solo_side}
 use Rattle.system_state.specs.declared.not_yet.NotYet.{NotYet}
 use Rattle.system_state.specs.declared.not_yet.NotYet.TheVariants.{Awaited, NoRoom}
 use Rattle.system_lanes.specs.Waiting.{awaited_still}
-use Rattle.event_turns.specs.Begun.{side_of, claim_at_side, waits_for, begin_waits, least_clash, used_at, need_of}
-use Rattle.event_turns.specs.Ways.{Waits, way_by, begin_way}
+use Rattle.page_steps.specs.Begun.{side_of, claim_at_side, waits_for, begin_waits, least_clash, used_at, need_of}
+use Rattle.page_steps.specs.Ways.{Waits, way_by, begin_way}
 
 no_room_awaited : (lanes : ℕ → LaneState) (o : Option (ℕ × ℕ)) (used need : ℕ) → awaited_still lanes o ≡ Some (NoRoom used need) → ⊥
 no_room_awaited lanes None used need e = absurd (cc)

@@ -6,9 +6,9 @@ use Rattle.core_state.specs.declared.event.Event.{Event}
 use Rattle.core_state.specs.State.{Core}
 use Rattle.system_state.specs.declared.not_yet.NotYet.{NotYet}
 use Rattle.system_state.specs.declared.not_yet.NotYet.TheVariants.{NoRoom}
-use Rattle.event_turns.specs.BegunAnswer.{Begun}
-use Rattle.event_turns.specs.Begun.{side_of}
-use Rattle.event_turns.specs.Ways.{begin_way, way_of, begin_event, IsNext}
+use Rattle.page_steps.specs.BegunAnswer.{Begun}
+use Rattle.page_steps.specs.Begun.{side_of}
+use Rattle.page_steps.specs.Ways.{begin_way, way_of, begin_event, IsNext}
 
 -- a call begins, is refused, or waits, as its way in core c is; where it waits for room the side is found
 abbrev pub BeginSays : ℕ → Request → Side → Result Begun NotYet → Core → List Event → Type 0

@@ -9,7 +9,7 @@ use Rattle.core_state.specs.declared.event.Event.{Event}
 use Rattle.core_state.specs.declared.event.Event.TheVariants.{End}
 use Rattle.core_state.specs.State.{Held, Flight, Core}
 use Rattle.core_state.specs.Reach.{is_sync}
-use Rattle.event_turns.specs.Words.{IsAnswered}
+use Rattle.page_steps.specs.Words.{IsAnswered}
 
 abbrev pub sync_reply : Bool → Reply
 sync_reply fault = if fault then Fault else Done

@@ -6,9 +6,9 @@ use Rattle.core_state.specs.declared.event.Event.{Event}
 use Rattle.core_state.specs.declared.event.Event.TheVariants.{Quick}
 use Rattle.core_state.specs.State.{Core}
 use Rattle.system_state.specs.declared.not_yet.NotYet.{NotYet}
-use Rattle.event_turns.specs.LoadingOf.{Loading}
-use Rattle.event_turns.specs.QuickWaits.{quick_waits}
-use Rattle.event_turns.specs.Words.{IsAnswered}
+use Rattle.page_steps.specs.LoadingOf.{Loading}
+use Rattle.page_steps.specs.QuickWaits.{quick_waits}
+use Rattle.page_steps.specs.Words.{IsAnswered}
 
 -- it is answered in core c, with its reply as the event has it, or waits, and what it loads is as before
 abbrev pub QuickSays : ℕ → Request → Loading → Loading → Result Numbered NotYet → Core → List Event → Type 0

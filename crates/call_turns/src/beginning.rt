@@ -9,16 +9,15 @@ ghost use Rattle.core_state.specs.LaneEvents.{IsIdle};
 ghost use Rattle.core_state.specs.Happens.{HoldsNone};
 ghost use Rattle.core_state.specs.History.{calls_of};
 ghost use Rattle.system_state.specs.Cores.{core_of};
-ghost use Rattle.event_turns.specs.BegunAnswer.TheVariants.{Ended};
+ghost use Rattle.page_steps.specs.BegunAnswer.TheVariants.{Ended};
 ghost use Rattle.desk_turns.specs.Passing.{ActsFor, core_seen, Turn, Went};
-ghost use Rattle.event_turns.specs.Words.{StillHolds, IsNumbered, IsSmall};
+ghost use Rattle.page_steps.specs.Words.{StillHolds, IsNumbered, IsSmall};
 ghost use Rattle.call_turns.specs.Beginning.{BeginSays};
 
 use dispatcher::Side;
 use flash_die::Die;
-use event_turns::System;
+use page_steps::{Begun, System, try_begin};
 use plain_files::Request;
-use event_turns::{Begun, try_begin};
 use system_state::{CallJob, NotYet};
 use turn_cell::{Desk, Worn};
 

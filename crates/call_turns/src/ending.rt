@@ -15,13 +15,13 @@ ghost use Rattle.system_state.specs.Cores.{core_of};
 ghost use Rattle.system_state.specs.Stands.{IsStanding, Stands};
 ghost use Rattle.system_state.specs.declared.state.State.{State};
 ghost use Rattle.desk_turns.specs.Passing.{ActsFor, core_seen, Turn, Went};
-ghost use Rattle.event_turns.specs.Words.{StillHolds, IsNumbered, IsSmall};
+ghost use Rattle.page_steps.specs.Words.{StillHolds, IsNumbered, IsSmall};
 ghost use Rattle.call_turns.specs.Ending.{EndsSync, EndSays, sync_reply};
 
 use core_state::Event;
 use flash_die::Die;
-use event_turns::System;
 use page_base::Page;
+use page_steps::System;
 use plain_files::{Numbered, Reply, Request};
 use system_ends::{Ending, end_call, jobs_held};
 use system_state::{CallJob, State};

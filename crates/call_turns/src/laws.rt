@@ -7,8 +7,8 @@ ghost use Rattle.core_state.specs.PlainOf.{plain};
 ghost use Rattle.core_state.specs.Reach.{claim_for};
 ghost use Rattle.core_solo.specs.Solo.{is_wanting, solo_side};
 ghost use Rattle.system_state.specs.declared.not_yet.NotYet.TheVariants.{NoRoom};
-ghost use Rattle.event_turns.specs.Begun.{side_of};
-ghost use Rattle.event_turns.specs.Ways.{Waits, begin_way};
+ghost use Rattle.page_steps.specs.Begun.{side_of};
+ghost use Rattle.page_steps.specs.Ways.{Waits, begin_way};
 
 /// A call that waits for room is one that the run of one thread makes room for: nothing refuses it, and frames are wanting at its side.
 pub fn waiting_wants_room()

@@ -8,15 +8,14 @@ ghost use Rattle.core_state.specs.LaneEvents.{IsIdle, is_quick};
 ghost use Rattle.core_state.specs.Happens.{HoldsNone};
 ghost use Rattle.core_state.specs.History.{calls_of};
 ghost use Rattle.system_state.specs.Cores.{core_of};
-ghost use Rattle.event_turns.specs.QuickTables.{IsDecoded};
+ghost use Rattle.page_steps.specs.QuickTables.{IsDecoded};
 ghost use Rattle.desk_turns.specs.Passing.{ActsFor, core_seen, Turn, Went};
-ghost use Rattle.event_turns.specs.Words.{StillHolds, IsNumbered, IsSmall};
+ghost use Rattle.page_steps.specs.Words.{StillHolds, IsNumbered, IsSmall};
 ghost use Rattle.call_turns.specs.Quick.{QuickSays};
 
 use flash_die::Die;
-use event_turns::System;
+use page_steps::{Loading, System, try_quick};
 use plain_files::{Numbered, Request};
-use event_turns::{Loading, try_quick};
 use system_state::{CallJob, NotYet};
 use turn_cell::{Desk, Worn};
 

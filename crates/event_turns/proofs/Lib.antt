@@ -8,3 +8,4 @@ pub mod Waiting
 pub use Rattle.flushes.proofs.Turning as FlushTurning
 pub use Rattle.flushes.proofs.Steps as FlushSteps
 pub use Rattle.flushes.proofs.Hands as FlushHands
+pub use Rattle.flushes.proofs.Known as FlushKnown

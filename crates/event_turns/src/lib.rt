@@ -10,8 +10,9 @@ pub mod laws;
 mod metas;
 mod pages;
 
-pub use flushes::{Begun, Flushed, Loading, System, flush_once, turn_flush_in, try_begin, try_quick};
-
+pub use flushes::{
+    Begun, Flushed, Loading, System, flush_home, flush_once, try_begin, try_quick, turn_flush_in,
+};
 pub use handing::{turn_fetch, turn_report, turn_submit};
 pub use lanes::{turn_closing, turn_enter, turn_leave, turn_skip};
 pub use metas::{MetaOut, turn_meta_in, turn_meta_out};

@@ -8,10 +8,8 @@ ghost use Rattle.desk_turns.specs.Passing.{ActsFor, core_seen, Does};
 ghost use Rattle.flusher.specs.Flusher.{StepSays, flushed_step};
 
 use core_state::Actor;
-use event_turns::turn_closing;
+use event_turns::{Flushed, System, flush_once, turn_closing};
 use flash_die::Die;
-use event_turns::{Flushed, flush_once};
-use event_turns::System;
 use page_base::Page;
 use system_state::CallJob;
 use turn_cell::{Desk, Worn};

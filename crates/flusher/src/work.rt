@@ -8,8 +8,8 @@ ghost use Rattle.desk_turns.specs.Passing.{ActsFor, core_seen, Does};
 ghost use Rattle.flusher.specs.Flusher.{LoopSays};
 
 use crate::step::{FlusherStep, flusher_step};
-use flash_die::Die;
 use event_turns::System;
+use flash_die::Die;
 use page_base::Page;
 use std::sync::Wait;
 use system_state::CallJob;

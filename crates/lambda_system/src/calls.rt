@@ -22,8 +22,7 @@ use crate::system::System;
 use dispatcher::Side;
 use flash_die::Die;
 use plain_files::{Numbered, Request};
-use system_quick::Begun;
-use system_quick::Loading;
+use system_quick::{Begun, Loading};
 use system_state::{CallJob, NotYet};
 
 impl<D: Die, J: CallJob> System<D, J> {

@@ -1,2 +1,13 @@
 pub mod Moves
 pub mod Steps
+pub use Rattle.event_turns.proofs.Taking
+pub use Rattle.event_turns.proofs.Keeping
+pub use Rattle.event_turns.proofs.Numbering
+pub use Rattle.event_turns.proofs.Answering
+pub use Rattle.event_turns.proofs.Errands
+pub use Rattle.event_turns.proofs.Nexts
+pub use Rattle.event_turns.proofs.Waiting
+pub use Rattle.event_turns.proofs.FlushTurning
+pub use Rattle.event_turns.proofs.FlushSteps
+pub use Rattle.event_turns.proofs.FlushHands
+pub use Rattle.event_turns.proofs.FlushKnown

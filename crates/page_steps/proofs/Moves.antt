@@ -18,7 +18,7 @@ use Rattle.core_state.specs.PageEvents.{order_at, is_spare, is_demotable}
 use Rattle.core_state.specs.DieEvents.{is_flushable}
 use Rattle.core_solo.specs.Solo.{evict_event, demote_event, flush_event}
 use Rattle.system_pages.specs.Idle.{drive_used}
-use Rattle.flushes.specs.Flushing.{IsFirst}
+use Rattle.event_turns.specs.Flushing.{IsFirst}
 use Rattle.system_state.specs.Jobs.{JobView}
 use Rattle.system_state.specs.Stands.{Stands}
 use Rattle.system_state.specs.declared.state.State.{State}

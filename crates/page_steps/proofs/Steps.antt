@@ -20,10 +20,10 @@ use Rattle.system_state.specs.declared.state.State.{State}
 use Rattle.desk_turns.specs.Passing.{ActsFor, core_after, core_seen, Turn, Went, Does, SameCalls, SameLane}
 use Rattle.desk_turns.proofs.Later.{own_idle, keeps_on, keeps_held, same_calls}
 use Rattle.desk_turns.proofs.Went.{went_on, went_turn, found_turn}
-use Rattle.flushes.specs.Flushing.{Flushes, IsBetweenFlushes, MayFlushNow, HomeSays}
-use Rattle.flushes.specs.declared.flush.Flushed.{Flushed}
-use Rattle.flushes.specs.declared.flush.Flushed.TheVariants.{Wrote, Failed as FlushFailed, Nothing as NothingUnclean, Busy}
-use Rattle.flushes.proofs.Steps.{leaves, shape_at, may_at, sent_keeps, sent_flushes, failed_on, quiet_step}
+use Rattle.event_turns.specs.Flushing.{Flushes, IsBetweenFlushes, MayFlushNow, HomeSays}
+use Rattle.event_turns.specs.FlushedAnswer.{Flushed}
+use Rattle.event_turns.specs.FlushedAnswer.TheVariants.{Wrote, Failed as FlushFailed, Nothing as NothingUnclean, Busy}
+use Rattle.event_turns.proofs.FlushSteps.{leaves, shape_at, may_at, sent_keeps, sent_flushes, failed_on, quiet_step}
 use Rattle.page_steps.specs.Room.{event_of, RoomTurn}
 use Rattle.page_steps.specs.Making.{IsIdleWith, IsFree, IsForRoom, IsWhole, RoomSays, made_by}
 use Rattle.page_steps.specs.declared.making.Made.{Made}

@@ -15,9 +15,9 @@ use Rattle.core_solo.specs.Solo.{room_event}
 use Rattle.system_state.specs.Cores.{core_of}
 use Rattle.system_state.specs.declared.state.State.{State}
 use Rattle.desk_turns.specs.Passing.{core_seen, FoundAt, SameLane}
-use Rattle.flushes.specs.Flushing.{HasFailed, IsCutShort}
-use Rattle.flushes.specs.declared.flush.Flushed.{Flushed}
-use Rattle.flushes.specs.declared.flush.Flushed.TheVariants.{Wrote, Failed as FlushFailed, Nothing, Busy}
+use Rattle.event_turns.specs.Flushing.{HasFailed, IsCutShort}
+use Rattle.event_turns.specs.FlushedAnswer.{Flushed}
+use Rattle.event_turns.specs.FlushedAnswer.TheVariants.{Wrote, Failed as FlushFailed, Nothing, Busy}
 use Rattle.page_steps.specs.declared.making.Made.{Made}
 use Rattle.page_steps.specs.declared.making.Made.TheVariants.{Room, Failed, Wait}
 

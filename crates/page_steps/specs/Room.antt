@@ -24,7 +24,7 @@ use Rattle.system_state.specs.Errands.{WentOut}
 use Rattle.system_state.specs.declared.errand.Errand.{Errand}
 use Rattle.system_state.specs.declared.state.State.{State}
 use Rattle.desk_turns.specs.Making.{Makes}
-use Rattle.flushes.specs.Flushing.{IsFirst}
+use Rattle.event_turns.specs.Flushing.{IsFirst}
 use Rattle.page_steps.specs.declared.room.Move.{Move}
 use Rattle.page_steps.specs.declared.room.Move.TheVariants.{Evicted, Demoted}
 use Rattle.page_steps.specs.declared.room.Given.{Given}

@@ -12,8 +12,8 @@ ghost use Rattle.page_steps.specs.Room.{MayMove, Gave, IsSent, move_event, given
 
 use core_state::Actor;
 use dispatcher::Side;
+use event_turns::System;
 use flash_die::Die;
-use flushes::System;
 use page_base::Page;
 use system_state::{CallJob, Errand};
 

@@ -6,15 +6,15 @@ ghost use Rattle.system_state.specs.Cores.{core_of};
 ghost use Rattle.system_state.specs.Errands.{IsFresh};
 ghost use Rattle.system_state.specs.declared.errand.Errand.{Errand};
 ghost use Rattle.desk_turns.specs.Passing.{ActsFor, core_seen, Turn, Went};
-ghost use Rattle.flushes.specs.Flushing.{MayFlushNow, IsInHand};
+ghost use Rattle.event_turns.specs.Flushing.{MayFlushNow, IsInHand};
 ghost use Rattle.page_steps.specs.declared.room.Given.TheVariants.{Sent};
 ghost use Rattle.page_steps.specs.Room.{RoomTurn};
 
 use crate::room::{Given, try_room};
 use core_state::Actor;
 use dispatcher::Side;
+use event_turns::System;
 use flash_die::Die;
-use flushes::System;
 use page_base::Page;
 use system_state::CallJob;
 use turn_cell::{Desk, Worn};

@@ -17,7 +17,7 @@ use Rattle.system_state.specs.declared.state.State.{State}
 use Rattle.system_dies.specs.Coming.{flush_in_event}
 use Rattle.system_metas.specs.Coming.{meta_in_event}
 use Rattle.desk_turns.specs.Passing.{core_after, Turn}
-use Rattle.event_turns.specs.Flushing.{IsInHand, HasFailed}
+use Rattle.page_steps.specs.Flushing.{IsInHand, HasFailed}
 use Rattle.settling.specs.Next.{BlockBack, PageBack}
 
 module _ {S : Type 0} (core : S → Core) where

@@ -39,8 +39,8 @@ use Rattle.system_metas.specs.Encode.{encode}
 use Rattle.desk_turns.specs.Making.{AreOf}
 use Rattle.desk_turns.specs.Passing.{core_seen, Went, Does}
 use Rattle.desk_turns.proofs.Went.{of_on, went_on, went_none}
-use Rattle.event_turns.specs.Flushing.{IsBusy}
-use Rattle.event_turns.proofs.FlushSteps.{failed_on as earlier}
+use Rattle.page_steps.specs.Flushing.{IsBusy}
+use Rattle.page_steps.proofs.FlushSteps.{failed_on as earlier}
 use Rattle.settling.specs.Next.{IsPageAway, IsStopped}
 use Rattle.settling.specs.Steps.{WroteNext, WroteNone, StepSays, StaysStored}
 use Rattle.settling.specs.Settle.{HasSettled, HasNotSettled, SettleSays}

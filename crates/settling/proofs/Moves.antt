@@ -16,7 +16,7 @@ use Rattle.system_state.specs.declared.not_yet.NotYet.{NotYet}
 use Rattle.system_state.specs.declared.not_yet.NotYet.TheVariants.{NothingDirty, DieBusy}
 use Rattle.system_metas.specs.Encode.{encode}
 use Rattle.system_dies.specs.Going.{flush_refusal}
-use Rattle.event_turns.specs.Flushing.{IsFirst, IsBusy}
+use Rattle.page_steps.specs.Flushing.{IsFirst, IsBusy}
 use Rattle.page_steps.proofs.Moves.{flush_some}
 use Rattle.turn_cell.specs.declared.book.Entry.{Entry}
 use Rattle.turn_cell.specs.History.{entry}

@@ -39,9 +39,9 @@ use Rattle.core_hold.proofs.Actors.{is_itself}
 use Rattle.desk_turns.proofs.Shapes.{holds_kept, coherent_after, shape_kept}
 use Rattle.desk_turns.proofs.Later.{none_kept, keeps_held}
 use Rattle.desk_turns.proofs.Went.{went_on, went_turn, found_turn}
-use Rattle.event_turns.specs.Flushing.{IsInHand, HasFailed}
-use Rattle.event_turns.proofs.FlushHands.{actor_is, core_back}
-use Rattle.event_turns.proofs.FlushSteps.{shape_at, acts_on, failed_on}
+use Rattle.page_steps.specs.Flushing.{IsInHand, HasFailed}
+use Rattle.page_steps.proofs.FlushHands.{actor_is, core_back}
+use Rattle.page_steps.proofs.FlushSteps.{shape_at, acts_on, failed_on}
 use Rattle.settling.specs.Next.{IsNextWrite, IsStopped, NextSays, BlockBack, PageBack}
 use Rattle.settling.specs.Steps.{EndsInFailure, StaysStored, WroteNext, WroteNone, IsUnfailed, StepSays, stepped}
 use Rattle.settling.specs.declared.next.Next.{Next}

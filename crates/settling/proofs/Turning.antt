@@ -26,9 +26,9 @@ use Rattle.system_state.specs.declared.errand.Errand.{Errand}
 use Rattle.system_state.specs.declared.state.State.{State}
 use Rattle.desk_turns.specs.Passing.{IsItsOwn}
 use Rattle.desk_turns.proofs.Later.{none_kept, keeps_held}
-use Rattle.event_turns.specs.Flushing.{IsInHand}
-use Rattle.event_turns.proofs.Taking.{DidAt, one_at, none_at}
-use Rattle.event_turns.proofs.Errands.{sent_hand}
+use Rattle.page_steps.specs.Flushing.{IsInHand}
+use Rattle.page_steps.proofs.Taking.{DidAt, one_at, none_at}
+use Rattle.page_steps.proofs.Errands.{sent_hand}
 use Rattle.core_closing.specs.Kept.{MaySettle}
 use Rattle.settling.specs.Next.{NextDid, NextSays}
 use Rattle.settling.specs.declared.next.Next.{Next}

@@ -24,7 +24,7 @@ use Rattle.system_state.specs.declared.not_yet.NotYet.{NotYet}
 use Rattle.system_state.specs.declared.not_yet.NotYet.TheVariants.{DieBusy}
 use Rattle.system_state.specs.declared.state.State.{State}
 use Rattle.system_metas.specs.Encode.{encode}
-use Rattle.event_turns.specs.Flushing.{IsBusy}
+use Rattle.page_steps.specs.Flushing.{IsBusy}
 use Rattle.settling.specs.declared.next.Next.{Next}
 use Rattle.settling.specs.declared.next.Next.TheVariants.{Block, Meta as PageOut, Busy, Stored}
 

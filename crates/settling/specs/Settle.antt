@@ -14,7 +14,7 @@ use Rattle.system_state.specs.declared.state.State.{State}
 use Rattle.system_metas.specs.Encode.{encode}
 use Rattle.desk_turns.specs.Making.{AreOf}
 use Rattle.desk_turns.specs.Passing.{core_seen}
-use Rattle.event_turns.specs.Flushing.{HasFailed}
+use Rattle.page_steps.specs.Flushing.{HasFailed}
 use Rattle.settling.specs.Steps.{EndsInFailure, IsUnfailed}
 use Rattle.settling.specs.declared.last_sync.Settled.{Settled}
 use Rattle.settling.specs.declared.last_sync.Settled.TheVariants.{NotAsked, Done, Failed}

@@ -19,7 +19,7 @@ use Rattle.system_state.specs.declared.state.State.{State}
 use Rattle.system_metas.specs.Encode.{encode}
 use Rattle.desk_turns.specs.Making.{AreOf}
 use Rattle.desk_turns.specs.Passing.{core_seen, FoundAt}
-use Rattle.event_turns.specs.Flushing.{HasFailed}
+use Rattle.page_steps.specs.Flushing.{HasFailed}
 use Rattle.settling.specs.Next.{IsNextWrite, IsStopped}
 use Rattle.settling.specs.declared.step.SettleStep.{SettleStep}
 use Rattle.settling.specs.declared.step.SettleStep.TheVariants.{On, Done, Failed, Waits}

@@ -7,15 +7,13 @@ ghost use Rattle.core_state.specs.Happens.{IsClosing};
 ghost use Rattle.system_state.specs.Cores.{core_of};
 ghost use Rattle.system_state.specs.Errands.{IsFresh};
 ghost use Rattle.desk_turns.specs.Passing.{ActsFor, core_seen, Turn, Went};
-ghost use Rattle.event_turns.specs.Flushing.{IsInHand, HasFailed};
+ghost use Rattle.page_steps.specs.Flushing.{IsInHand, HasFailed};
 ghost use Rattle.settling.specs.Next.{BlockBack, PageBack};
 
 use core_state::Actor;
-use event_turns::turn_meta_in;
 use flash_die::Die;
-use event_turns::turn_flush_in;
-use event_turns::System;
 use page_base::Page;
+use page_steps::{System, turn_flush_in, turn_meta_in};
 use system_state::{CallJob, Errand};
 use turn_cell::{Desk, Worn};
 

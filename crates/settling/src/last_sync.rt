@@ -5,14 +5,14 @@ ghost use Rattle.turn_cell.specs.Steps.{IsWorn};
 ghost use Rattle.core_state.specs.declared.actor.Actor.TheVariants.{Closer};
 ghost use Rattle.system_state.specs.Cores.{core_of};
 ghost use Rattle.desk_turns.specs.Passing.{ActsFor, core_seen, Does};
-ghost use Rattle.event_turns.specs.Books.{opening_in};
+ghost use Rattle.page_steps.specs.Books.{opening_in};
 ghost use Rattle.core_closing.specs.Kept.{MaySettle};
 ghost use Rattle.settling.specs.Settle.{SettleSays};
 
 use crate::step::{SettleStep, settle_step};
 use flash_die::Die;
-use event_turns::System;
 use page_base::Page;
+use page_steps::System;
 use std::sync::Wait;
 use system_state::CallJob;
 use turn_cell::{Alone, Desk, Seated, Worn};

@@ -11,8 +11,8 @@ use crate::homecoming::{block_home, page_home};
 use crate::next::Next;
 use crate::turn::turn_next;
 use flash_die::Die;
-use event_turns::System;
 use page_base::Page;
+use page_steps::System;
 use system_state::CallJob;
 use turn_cell::{Desk, Worn};
 

@@ -8,15 +8,15 @@ ghost use Rattle.system_state.specs.Cores.{core_of};
 ghost use Rattle.system_state.specs.Errands.{IsFresh};
 ghost use Rattle.system_state.specs.declared.errand.Errand.{Errand};
 ghost use Rattle.desk_turns.specs.Passing.{ActsFor, core_seen, Turn, Went};
-ghost use Rattle.event_turns.specs.Flushing.{IsInHand};
+ghost use Rattle.page_steps.specs.Flushing.{IsInHand};
 ghost use Rattle.core_closing.specs.Kept.{MaySettle};
 ghost use Rattle.settling.specs.Next.{NextSays};
 ghost use Rattle.settling.specs.declared.next.Next.TheVariants.{Block, Meta};
 
 use crate::next::{Next, try_next};
 use flash_die::Die;
-use event_turns::System;
 use page_base::Page;
+use page_steps::System;
 use system_state::CallJob;
 use turn_cell::{Desk, Worn};
 

@@ -1,6 +1,5 @@
-use Rattle.std.proofs.Common.{◌≡◌, ℕ, List, Some, sym, ap, ◌∙◌}
+use Rattle.std.proofs.Common.{ℕ, List, sym, ap, ◌∙◌}
 use Rattle.sbpf_insn.specs.Machine as machine
-use Rattle.sbpf_exec.specs.Parts.{param_of}
 use Rattle.span_bytes.specs.Spans.{span_part}
 use Rattle.call_job.proofs.Executed.{part_paged, param_is}
 use Rattle.call_job.proofs.execution.run_over_output.Goals as goal

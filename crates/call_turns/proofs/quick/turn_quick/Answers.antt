@@ -4,9 +4,9 @@ use Rattle.system_state.specs.Cores.{core_of}
 use Rattle.desk_turns.specs.Passing.{core_seen}
 use Rattle.desk_turns.proofs.Later.{none_kept, own_idle}
 use Rattle.desk_turns.proofs.Went.{worn_went, if_err}
-use Rattle.event_turns.proofs.Taking.{Found, stood, found_at, gave, turned, worn_holds}
-use Rattle.event_turns.proofs.Keeping.{idle_kept}
-use Rattle.event_turns.proofs.Numbering.{last_fits, versions_fit}
+use Rattle.page_steps.proofs.Taking.{Found, stood, found_at, gave, turned, worn_holds}
+use Rattle.page_steps.proofs.Keeping.{idle_kept}
+use Rattle.page_steps.proofs.Numbering.{last_fits, versions_fit}
 use Rattle.std.specs.Result.{IsErr}
 use Rattle.call_turns.specs.Quick.{QuickSays}
 use Rattle.call_turns.proofs.Quicks.{quick_did, quick_numbered}

@@ -3,8 +3,8 @@ use Rattle.core_state.specs.declared.actor.Actor.TheVariants.{Lane}
 use Rattle.core_state.specs.State.{ToFlush}
 use Rattle.system_state.specs.Cores.{core_of}
 use Rattle.desk_turns.specs.Passing.{ActsFor, core_seen, Turn, Does}
-use Rattle.flushes.specs.Flushing.{Flushes, IsInHand}
-use Rattle.flushes.proofs.Steps.{acts_on}
+use Rattle.event_turns.specs.Flushing.{Flushes, IsInHand}
+use Rattle.event_turns.proofs.FlushSteps.{acts_on}
 use Rattle.page_steps.specs.Room.{RoomTurn}
 use Rattle.page_steps.specs.Making.{RoomSays}
 use Rattle.page_steps.specs.declared.room.Given.TheVariants.{Sent}

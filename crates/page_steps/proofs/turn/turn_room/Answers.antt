@@ -3,8 +3,8 @@ use Rattle.system_state.specs.Cores.{core_of}
 use Rattle.system_state.specs.Stands.{Stands}
 use Rattle.desk_turns.proofs.Turning.{gives_at, turned_at}
 use Rattle.desk_turns.proofs.Went.{worn_went, if_err}
-use Rattle.flushes.proofs.Known.{flushes_for}
-use Rattle.flushes.proofs.Turning.{may_found, out_got}
+use Rattle.event_turns.proofs.FlushKnown.{flushes_for}
+use Rattle.event_turns.proofs.FlushTurning.{may_found, out_got}
 use Rattle.page_steps.specs.Room.{few, given_event, RoomTurn}
 use Rattle.page_steps.proofs.Moves.{are_few, of_given}
 use Rattle.page_steps.proofs.turn.turn_room.Goals as goal

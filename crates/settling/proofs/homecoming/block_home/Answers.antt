@@ -4,7 +4,7 @@ use Rattle.core_state.specs.State.{ToFlush}
 use Rattle.system_state.specs.Cores.{core_of}
 use Rattle.desk_turns.specs.Passing.{core_seen}
 use Rattle.desk_turns.proofs.Went.{if_err, went_turn}
-use Rattle.event_turns.proofs.FlushSteps.{wrote_hand}
+use Rattle.page_steps.proofs.FlushSteps.{wrote_hand}
 use Rattle.settling.specs.Next.{BlockBack}
 use Rattle.settling.proofs.Ready.{own_closer}
 use Rattle.settling.proofs.Homing.{block_back, rose_by}

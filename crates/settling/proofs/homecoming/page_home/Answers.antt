@@ -3,7 +3,7 @@ use Rattle.core_state.specs.State.{ToMeta}
 use Rattle.system_state.specs.Cores.{core_of}
 use Rattle.desk_turns.specs.Passing.{core_seen}
 use Rattle.desk_turns.proofs.Went.{if_err, went_turn}
-use Rattle.event_turns.proofs.Errands.{stored_hand}
+use Rattle.page_steps.proofs.Errands.{stored_hand}
 use Rattle.settling.specs.Next.{PageBack}
 use Rattle.settling.proofs.Ready.{own_closer}
 use Rattle.settling.proofs.Homing.{page_back, rose_by}

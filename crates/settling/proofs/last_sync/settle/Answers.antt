@@ -8,7 +8,7 @@ use Rattle.core_closing.specs.Kept.{MaySettle}
 use Rattle.system_state.specs.Cores.{core_of}
 use Rattle.system_state.specs.declared.state.State.{State}
 use Rattle.desk_turns.specs.Passing.{ActsFor, core_seen, Does}
-use Rattle.event_turns.specs.Books.{opening_in}
+use Rattle.page_steps.specs.Books.{opening_in}
 use Rattle.settling.proofs.Looping.{Going, going_none, on_step, waits_on, done_on, failed_on, worn_on}
 use Rattle.settling.proofs.last_sync.settle.Goals as goal
 

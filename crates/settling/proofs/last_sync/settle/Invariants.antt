@@ -1,7 +1,7 @@
 use Rattle.std.proofs.Common.{◌≡◌}
 use Rattle.turn_cell.specs.Desks.{IsFreeAt}
 use Rattle.turn_cell.specs.Passes.{opening_of, view}
-use Rattle.event_turns.specs.Books.{opening_in}
+use Rattle.page_steps.specs.Books.{opening_in}
 use Rattle.desk_turns.specs.Passing.{Does}
 use Rattle.settling.proofs.Looping.{Going}
 use Rattle.settling.proofs.last_sync.settle.Given as goal

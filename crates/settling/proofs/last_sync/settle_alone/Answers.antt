@@ -4,7 +4,7 @@ use Rattle.core_solo.specs.Settling.{sync_left}
 use Rattle.core_closing.specs.Kept.{MaySettle}
 use Rattle.system_state.specs.Cores.{core_of}
 use Rattle.desk_turns.specs.Passing.{core_seen}
-use Rattle.event_turns.specs.Books.{opening_in}
+use Rattle.page_steps.specs.Books.{opening_in}
 use Rattle.settling.proofs.Looping.{going_none, on_step, done_on, failed_on, worn_on, home_on, on_falls, never_waits, done_home, failed_home}
 use Rattle.settling.proofs.last_sync.settle_alone.Goals as goal
 

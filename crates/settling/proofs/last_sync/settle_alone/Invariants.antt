@@ -2,7 +2,7 @@ use Rattle.std.proofs.Common.{◌≡◌}
 use Rattle.turn_cell.specs.Desks.{IsFreeAlone, view_alone, opening_alone, table_alone}
 use Rattle.core_solo.specs.Settling.{sync_left}
 use Rattle.system_state.specs.Cores.{core_of}
-use Rattle.event_turns.specs.Books.{opening_in}
+use Rattle.page_steps.specs.Books.{opening_in}
 use Rattle.desk_turns.specs.Passing.{Does, core_seen}
 use Rattle.settling.proofs.Looping.{Going}
 use Rattle.settling.proofs.last_sync.settle_alone.Given as goal

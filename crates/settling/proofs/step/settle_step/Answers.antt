@@ -6,8 +6,8 @@ use Rattle.core_state.specs.State.{ToFlush, ToMeta}
 use Rattle.core_state.specs.Happens.{IsClosing}
 use Rattle.system_state.specs.Cores.{core_of}
 use Rattle.desk_turns.specs.Passing.{ActsFor, core_seen, Turn, Does}
-use Rattle.event_turns.specs.Flushing.{IsInHand}
-use Rattle.event_turns.proofs.FlushSteps.{acts_on}
+use Rattle.page_steps.specs.Flushing.{IsInHand}
+use Rattle.page_steps.proofs.FlushSteps.{acts_on}
 use Rattle.settling.specs.Next.{NextSays}
 use Rattle.settling.specs.Steps.{StepSays}
 use Rattle.settling.specs.declared.next.Next.TheVariants.{Block, Meta as PageOut, Busy, Stored}

@@ -5,7 +5,7 @@ use Rattle.turn_cell.specs.Events.{events_of}
 use Rattle.system_state.specs.Cores.{core_of}
 use Rattle.desk_turns.specs.Passing.{core_seen}
 use Rattle.desk_turns.proofs.Went.{worn_went, if_err}
-use Rattle.event_turns.proofs.Taking.{Found, stood, coherent_seen, more, found_at, gave, turned}
+use Rattle.page_steps.proofs.Taking.{Found, stood, coherent_seen, more, found_at, gave, turned}
 use Rattle.settling.specs.Next.{NextSays}
 use Rattle.settling.proofs.Ready.{own_closer, settle_kept}
 use Rattle.settling.proofs.Turning.{next_did, block_hand, page_hand}

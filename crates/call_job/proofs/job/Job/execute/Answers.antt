@@ -1,13 +1,4 @@
-use Rattle.std.proofs.Common.{◌≡◌, ℕ, ◌≤◌, ◌+◌, List, Option, Some, None, refl, sym, ap, ◌∙◌, subst, arith, length}
-use Rattle.std.specs.Prelude.{◌≢◌, ◌%◌, option_map}
-use Rattle.sbpf_insn.specs.Machine as machine
-use Rattle.sbpf_exec.specs.declared.interpreter.Outcome.{Outcome}
-use Rattle.sbpf_exec.specs.Outcomes.{outcome_of}
-use Rattle.plain_files.specs.declared.calls.Call.{Call}
-use Rattle.plain_files.specs.declared.calls.Request.{Request}
-use Rattle.core_outcomes.specs.Known.{run_on, paged_bytes}
-use Rattle.span_bytes.specs.Spans.{page_in, span_part}
-use Rattle.call_job.specs.Suits.{put_out}
+use Rattle.std.proofs.Common.{arith}
 use Rattle.call_job.proofs.Executed.{readl_asks, writel_asks, param_short, readl_ready, writel_ready, lambda_only, readl_gives, writel_gives}
 use Rattle.call_job.proofs.job.Job.execute.Goals as goal
 

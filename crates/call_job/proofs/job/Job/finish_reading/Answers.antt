@@ -1,4 +1,4 @@
-use Rattle.std.proofs.Common.{◌≡◌, ap, ◌∙◌}
+use Rattle.std.proofs.Common.{ap}
 use Rattle.core_state.specs.Reach.{is_lambda}
 use Rattle.call_job.proofs.Endings.{read_asks, read_answer, run_of, flat_long, readl_answer, read_only, read_runs_none, readl_used}
 use Rattle.call_job.proofs.job.Job.finish_reading.Goals as goal
@@ -28,6 +28,7 @@ returns-in-Read c =
       reply = λ d lane call h e all s g. read_answer d lane call job c.in-Read.field-0 c.in-Read.off c.in-Read.field-2 c.reply_data-reply.result h e all s c.in-Read.is c.reply_data-reply.ensures.reply;
       used = λ d call s l g. read_runs_none job call.claim.request c.in-Read.field-0 c.in-Read.off c.in-Read.field-2 c.in-Read.is s l;
       pages = c.reply_data-reply.ensures.pages;
+      request = c.reply_data-reply.ensures.request;
     }
 
 pub returns-in-Readl : goal.returns-in-Readl
@@ -38,4 +39,5 @@ returns-in-Readl c =
       reply = λ d lane call h e all s g. readl_answer d lane call job c.in-Readl.file c.in-Readl.function c.in-Readl.off c.in-Readl.len c.in-Readl.fuel c.in-Readl.cap c.in-Readl.param c.reply_output.result.reply r h e s c.in-Readl.is g (c.reply_output.ensures.reply r.outcome r.is);
       used = λ d call s l g. readl_used d call job c.in-Readl.file c.in-Readl.function c.in-Readl.off c.in-Readl.len c.in-Readl.fuel c.in-Readl.cap c.reply_output.result.used c.in-Readl.param r c.in-Readl.is s g (c.reply_output.ensures.used r.outcome r.is);
       pages = c.reply_output.ensures.pages;
+      request = c.reply_output.ensures.request;
     }

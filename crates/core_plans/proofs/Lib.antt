@@ -1,0 +1,17 @@
+pub mod Answers
+pub mod Starved
+pub mod Syncs
+pub mod Alike
+pub mod Plans
+pub mod Faultless
+pub mod Sums
+pub mod Dies
+pub mod Lines
+pub mod Told
+pub mod Counted
+pub mod Spared
+pub mod Gathers
+pub mod Unfaulted
+pub mod Answering
+pub mod Lanes
+pub mod Runs

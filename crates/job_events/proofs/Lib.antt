@@ -1,0 +1,5 @@
+pub mod Found
+pub mod Arming
+pub mod Begins
+pub mod InUse
+pub mod Ends

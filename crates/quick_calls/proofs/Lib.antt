@@ -1,0 +1,9 @@
+pub mod Frees
+pub mod Ending
+pub use Rattle.call_turns.proofs.Syncs
+pub use Rattle.call_turns.proofs.Errands
+pub use Rattle.call_turns.proofs.Keeping
+pub use Rattle.call_turns.proofs.Nexts
+pub use Rattle.call_turns.proofs.Taking
+pub use Rattle.call_turns.proofs.FlushSteps
+pub use Rattle.call_turns.proofs.Moves

@@ -1,0 +1,12 @@
+pub mod Calls
+pub use Rattle.call_turns.specs.Beginning
+pub use Rattle.call_turns.specs.Ending
+pub use Rattle.call_turns.specs.Words
+pub use Rattle.call_turns.specs.MetaTurns
+pub use Rattle.call_turns.specs.Flushing
+pub use Rattle.call_turns.specs.BegunAnswer
+pub use Rattle.call_turns.specs.Begun
+pub use Rattle.call_turns.specs.Ways
+pub use Rattle.call_turns.specs.Books
+pub use Rattle.call_turns.specs.MetaAnswer
+pub use Rattle.call_turns.specs.Making
