@@ -1,6 +1,6 @@
 -- One step of a call that is to begin, turn by turn.
 use Rattle.std.proofs.Common.{◌≡◌, ℕ, Bool, true, false, List, [], ◌∷◌, ◌++◌, map, Some, None, refl, sym, ap, ◌∙◌, subst, inl, inr, append-nil}
-use Rattle.std.specs.Prelude.{Result, Ok, Err, Option}
+use Rattle.std.specs.Prelude.{Result, Ok, Err, Option, unwrap_or}
 use Rattle.std.specs.Result.{IsErr}
 use Rattle.std.specs.declared.snapshot.Snapshot.{Snapshot}
 use Rattle.index_lists.specs.Words.{put}
@@ -20,6 +20,9 @@ use Rattle.core_state.specs.declared.actor.Actor.TheVariants.{Lane}
 use Rattle.core_state.specs.declared.event.Event.{Event}
 use Rattle.core_state.specs.declared.event.Event.TheVariants.{Quick, Skip, Begin}
 use Rattle.core_state.specs.State.{Flight, Core}
+use Rattle.core_state.specs.PageEvents.{no_flight}
+use Rattle.system_state.specs.Jobs.{view_of}
+use Rattle.call_job.specs.Suits.{Suits}
 use Rattle.core_state.specs.Reach.{claim_for}
 use Rattle.core_state.specs.LaneEvents.{first_flight}
 use Rattle.core_state.specs.Happens.{May, CoreRun, after}
@@ -43,13 +46,13 @@ use Rattle.quick_calls.specs.BegunAnswer.{Begun}
 use Rattle.quick_calls.specs.BegunAnswer.TheVariants.{Ended as Refused, Started as Begins}
 use Rattle.quick_calls.specs.Ways.{Waits as WayWaits, begin_way}
 use Rattle.quick_calls.specs.Flushing.{IsCutShort}
-use Rattle.event_turns.specs.LaneTurns.{SkipSays}
+use Rattle.page_steps.specs.LaneTurns.{SkipSays}
 use Rattle.quick_calls.specs.Making.{IsIdleWith, IsFree, IsMarked, MadeRoom, FailedRoom, NoRoomYet, RoomSays}
 use Rattle.quick_calls.proofs.FlushSteps.{quiet_step, failed_on}
 use Rattle.quick_calls.proofs.Ending.{starts_on, idle_at, found_alone, acts_after, Waited, waited_none, waited_on, ended_on}
 use Rattle.quick_calls.proofs.Frees.{free_quick, free_skip}
-use Rattle.job_events.specs.Armed.{IsArmed}
-use Rattle.job_turns.specs.Jobs.{IsArmedIf}
+use Rattle.job_turns.specs.Armed.{HasJob}
+use Rattle.job_turns.specs.Starting.{StartSays}
 use Rattle.call_begins.specs.Steps.{lacks_room, is_marked, ended_event, began, after_room, WantsRoom, WaitsForCall, IsAtStart, WasSeen, WaitsBy, HasStarted, RoomStepSays, OnSays, WaitSays, StepSays, JobSays}
 use Rattle.call_begins.specs.declared.step.Stage.{Stage}
 use Rattle.call_begins.specs.declared.step.Stage.TheVariants.{Idle, Marked}
@@ -88,9 +91,12 @@ wants : (request : Request) (picked : Side) (lane : ℕ) (why : NotYet) (c : Cor
 wants request picked lane (NoRoom used need) c es lacks says = (used, need, sym says.1, says.2 used need refl)
 wants request picked lane _ c es lacks says = absurd (cc)
 
-pub job_begun : (c : Core) (lane : ℕ) (old new : Job) (b : Begun) → IsArmed c lane old new b → JobSays c lane old new (Ok (began b))
-job_begun c lane old new (Refused n) armed = armed
-job_begun c lane old new (Begins side span) armed = armed
+pub job_begun : (c : Core) (lane : ℕ) (old new : Job) (b : Begun) → StartSays c lane old new (Ok b) → JobSays c lane old new (Ok (began b))
+job_begun c lane old new (Refused n) says = says
+job_begun c lane old new (Begins side span) says = record {
+  suits = subst (λ (f : Option Flight). Suits new (view_of c.names (unwrap_or f no_flight))) (sym says.flies) says.suits;
+  fresh = says.fresh;
+}
 
 pub same_job : (c : Core) (lane : ℕ) (job : Job) (r : Result BeginStep Worn) → ((side : Side) → r ≡ Ok (Started side) → ⊥) → JobSays c lane job job r
 same_job c lane job (Ok (Started side)) not = absurd (not side refl)

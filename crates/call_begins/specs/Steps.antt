@@ -23,7 +23,7 @@ use Rattle.system_state.specs.declared.not_yet.NotYet.TheVariants.{NoRoom}
 use Rattle.system_state.specs.declared.state.State.{State}
 use Rattle.system_lanes.specs.Waiting.{awaited_still}
 use Rattle.call_job.specs.declared.job.Job.{Job}
-use Rattle.job_events.specs.Armed.{HasJob}
+use Rattle.job_turns.specs.Armed.{HasJob}
 use Rattle.desk_turns.specs.Passing.{core_after, core_seen, FoundAt}
 use Rattle.page_steps.specs.declared.making.Made.{Made}
 use Rattle.page_steps.specs.declared.making.Made.TheVariants.{Room, Failed, Wait}

@@ -9,7 +9,6 @@ ghost use Rattle.core_state.specs.LaneEvents.{IsIdle};
 ghost use Rattle.core_state.specs.Happens.{HoldsNone};
 ghost use Rattle.core_state.specs.History.{calls_of};
 ghost use Rattle.system_state.specs.Cores.{core_of};
-<<<<<<< HEAD
 ghost use Rattle.call_turns.specs.BegunAnswer.TheVariants.{Ended};
 ghost use Rattle.desk_turns.specs.Passing.{ActsFor, core_seen, Turn, Went};
 ghost use Rattle.call_turns.specs.Words.{StillHolds, IsNumbered, IsSmall};
@@ -19,31 +18,14 @@ ghost use Rattle.job_turns.specs.Starting.{StartSays};
 
 use call_job::{Job, Prepared};
 use call_turns::{Begun, System};
-=======
-ghost use Rattle.call_job.specs.Prepares.{IsPrepared};
-ghost use Rattle.event_turns.specs.BegunAnswer.TheVariants.{Ended};
-ghost use Rattle.desk_turns.specs.Passing.{ActsFor, core_seen, Turn, Went};
-ghost use Rattle.event_turns.specs.Words.{StillHolds, IsNumbered, IsSmall};
-ghost use Rattle.call_turns.specs.Beginning.{BeginSays};
-ghost use Rattle.job_turns.specs.Jobs.{IsArmedIf};
-
-use call_job::{Job, Prepared};
-use event_turns::{Begun, System};
->>>>>>> f30549a6a10534fb68cd141d050aef0e931043ee
 use flash_die::Die;
 use job_events::begin_job;
 use system_state::NotYet;
 use turn_cell::{Desk, Worn};
 
-<<<<<<< HEAD
 /// A prepared data call or `sync` of a lane that is free begins, with its job, or is refused and has ended. `NotYet`: the call that it awaits
 /// hasn't ended, or a call is in its way, or its side has no room for it; `picked` is that side then. Where it doesn't begin, its job is as it
 /// was. At `Worn` nothing was done, and the lane holds what it held.
-=======
-/// A prepared data call or `sync` of a lane that is free begins, or is refused and has ended. Where it began its job suits it. `NotYet`: the
-/// call that it awaits hasn't ended, or a call is in its way, or its side, which is picked then, has no room for it. At `Worn` nothing was
-/// done, and the lane holds what it held.
->>>>>>> f30549a6a10534fb68cd141d050aef0e931043ee
 pub fn turn_begin_job<D: Die, K: Desk<System<D, Job>>>(
     desk: &mut K,
     lane: u32,
@@ -63,17 +45,10 @@ pub fn turn_begin_job<D: Die, K: Desk<System<D, Job>>>(
     ensures went { IfErr result (λ _. Went (K.view desk.old) (K.view desk.new) []) }
     ensures kept { IfErr result (λ _. StillHolds (core_of D.seen) (K.opening desk.old) (K.view desk.old) (K.view desk.new) (Lane lane)) }
     ensures same { IfErr result (λ _. prepared.new ≡ prepared.old) }
-<<<<<<< HEAD
     ensures request { prepared.new.job.request ≡ prepared.old.job.request }
     ensures did { IfOk result (λ x. Turn (core_of D.seen) (K.opening desk.old) (K.view desk.old) (K.view desk.new) (BeginSays lane prepared.old.job.request prepared.new.picked x)) }
     ensures job { IfOk result (λ x. StartSays (core_seen (core_of D.seen) (K.opening desk.old) (K.view desk.new)) lane prepared.old.job prepared.new.job x) }
     ensures numbered { (n : Numbered) → result ≡ Ok (Ok (Ended n)) → IsNumbered (K.opening desk.old).value.last (calls_of (events_of (K.view desk.new).seen)) n.number (record { lane = lane; call = prepared.old.job.request.call; reply = n.reply }) }
-=======
-    ensures did { IfOk result (λ x. Turn (core_of D.seen) (K.opening desk.old) (K.view desk.old) (K.view desk.new) (BeginSays lane prepared.old.job.request prepared.new.picked x)) }
-    ensures armed { IfOk result (λ x. IsArmedIf (core_seen (core_of D.seen) (K.opening desk.old) (K.view desk.new)) lane prepared.old.job prepared.new.job x) }
-    ensures numbered { (n : Numbered) → result ≡ Ok (Ok (Ended n)) →
-        IsNumbered (K.opening desk.old).value.last (calls_of (events_of (K.view desk.new).seen)) n.number (record { lane = lane; call = prepared.old.job.request.call; reply = n.reply }) }
->>>>>>> f30549a6a10534fb68cd141d050aef0e931043ee
 {
     let mut system = desk.take()?;
     let answer = begin_job(&mut system.state, lane, prepared);

@@ -1,8 +1,4 @@
-<<<<<<< HEAD
 //! The turn in which a held call ends, with what its job gives.
-=======
-//! The turn in which a held call ends.
->>>>>>> f30549a6a10534fb68cd141d050aef0e931043ee
 ghost use Rattle.std.specs.Prelude.{◌≡◌, [], Ok, IfOk, IfErr};
 ghost use Rattle.turn_cell.specs.Events.{events_of};
 ghost use Rattle.turn_cell.specs.Steps.{IsWorn};
@@ -14,34 +10,20 @@ ghost use Rattle.core_state.specs.Happens.{HoldsNone};
 ghost use Rattle.core_state.specs.History.{calls_of};
 ghost use Rattle.system_state.specs.Cores.{core_of};
 ghost use Rattle.desk_turns.specs.Passing.{ActsFor, core_seen, Turn, Went};
-<<<<<<< HEAD
 ghost use Rattle.call_turns.specs.Words.{StillHolds, IsNumbered, IsSmall};
 ghost use Rattle.job_events.specs.Ended.{CanEnd};
 ghost use Rattle.job_turns.specs.Finishing.{EndSays};
 
 use call_job::Job;
 use call_turns::System;
-=======
-ghost use Rattle.event_turns.specs.Words.{StillHolds, IsNumbered, IsSmall};
-ghost use Rattle.job_events.specs.Ended.{CanEnd};
-ghost use Rattle.job_turns.specs.Jobs.{EndSays};
-
-use call_job::Job;
-use event_turns::System;
->>>>>>> f30549a6a10534fb68cd141d050aef0e931043ee
 use flash_die::Die;
 use job_events::end_job;
 use plain_files::Numbered;
 use turn_cell::{Desk, Worn};
 
-<<<<<<< HEAD
 /// A held call that may end does so, with the next number and its reply: with a mark a fault, and else that of the plain machine. Its pages
 /// go into its file where it stored, and back where it didn't; the job gets other pages. At `Worn` nothing was done, and the lane holds
 /// what it held.
-=======
-/// A held call ends, with the next number: with a mark a fault, and else with the reply of the plain machine. At `Worn` nothing was done, and the
-/// lane holds what it held.
->>>>>>> f30549a6a10534fb68cd141d050aef0e931043ee
 pub fn turn_end_job<D: Die, K: Desk<System<D, Job>>>(
     desk: &mut K,
     lane: u32,
@@ -59,15 +41,9 @@ pub fn turn_end_job<D: Die, K: Desk<System<D, Job>>>(
     ensures went { IfErr result (λ _. Went (K.view desk.old) (K.view desk.new) []) }
     ensures kept { IfErr result (λ _. StillHolds (core_of D.seen) (K.opening desk.old) (K.view desk.old) (K.view desk.new) (Lane lane)) }
     ensures same { IfErr result (λ _. job.new ≡ job.old) }
-<<<<<<< HEAD
     ensures request { job.new.request ≡ job.old.request }
     ensures did { IfOk result (λ n. Turn (core_of D.seen) (K.opening desk.old) (K.view desk.old) (K.view desk.new) (EndSays lane job.old.request n)) }
     ensures numbered { (n : Numbered) → result ≡ Ok n → IsNumbered (K.opening desk.old).value.last (calls_of (events_of (K.view desk.new).seen)) n.number (record { lane = lane; call = job.old.request.call; reply = n.reply }) }
-=======
-    ensures did { IfOk result (λ n. Turn (core_of D.seen) (K.opening desk.old) (K.view desk.old) (K.view desk.new) (EndSays lane job.old.request n)) }
-    ensures numbered { (n : Numbered) → result ≡ Ok n →
-        IsNumbered (K.opening desk.old).value.last (calls_of (events_of (K.view desk.new).seen)) n.number (record { lane = lane; call = job.old.request.call; reply = n.reply }) }
->>>>>>> f30549a6a10534fb68cd141d050aef0e931043ee
 {
     let mut system = desk.take()?;
     let answer = end_job(&mut system.state, lane, job);

@@ -5,9 +5,10 @@ use Rattle.system_state.specs.Cores.{core_of}
 use Rattle.desk_turns.specs.Passing.{core_seen, Turn, Does}
 use Rattle.quick_calls.specs.Beginning.{BeginSays}
 use Rattle.quick_calls.specs.Making.{IsFree}
-use Rattle.call_begins.specs.Steps.{StepSays}
+use Rattle.job_turns.specs.Starting.{StartSays}
+use Rattle.call_begins.specs.Steps.{StepSays, JobSays}
 use Rattle.call_begins.specs.declared.step.Stage.TheVariants.{Idle}
-use Rattle.call_begins.proofs.Stepping.{began_step, waits_step, room_step, still_free, refused_told}
+use Rattle.call_begins.proofs.Stepping.{began_step, job_begun, waits_step, room_step, still_free, refused_told}
 use Rattle.call_begins.proofs.step.step_idle.Goals as goal
 
 pub step_room-requires-clause-lane : goal.step_room-requires-clause-lane
@@ -56,3 +57,12 @@ returns-else-lacks_room-clause-did g c =
     let picked = c.turn_begin_job.new.prepared.picked in
     let t = subst (λ r. Turn (core_of g.D.Die.seen) o v u (BeginSays c.args.lane request picked r)) c.in-Err.is c.in_ok-answer.ensures.did in
     waits_step g.D.Die.seen o v u c.args.lane request picked c.in-Err.why c.requires.acts c.requires.lane (cc) t
+
+pub returns-in-Ok-clause-job : goal.returns-in-Ok-clause-job
+returns-in-Ok-clause-job g c =
+    let o = g.K.Desk.opening c.args.desk.now in
+    let u = g.K.Desk.view c.turn_begin_job.new.desk in
+    let old = c.args.prepared.now.job in
+    let new = c.turn_begin_job.new.prepared.job in
+    let says = subst (λ r. StartSays (core_seen (core_of g.D.Die.seen) o u) c.args.lane old new r) c.in-Ok.is c.in_ok-answer.ensures.job in
+    subst (λ s. JobSays (core_seen (core_of g.D.Die.seen) o u) c.args.lane old new (Ok s)) (sym c.began.ensures) (job_begun (core_seen (core_of g.D.Die.seen) o u) c.args.lane old new c.in-Ok.begun says)

@@ -1,7 +1,7 @@
 use Rattle.std.proofs.Common.{true, subst}
 use Rattle.system_state.specs.Cores.{core_of}
 use Rattle.desk_turns.specs.Passing.{Turn}
-use Rattle.event_turns.specs.LaneTurns.{SkipSays}
+use Rattle.page_steps.specs.LaneTurns.{SkipSays}
 use Rattle.call_begins.proofs.Stepping.{skipped_step, awaits_step, skipped_told}
 use Rattle.call_begins.proofs.step.step_marked.Goals as goal
 

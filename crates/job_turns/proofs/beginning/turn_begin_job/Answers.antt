@@ -1,16 +1,9 @@
-<<<<<<< HEAD
 use Rattle.std.proofs.Common.{subst, ◌∙◌, Ok, arith}
 use Rattle.core_state.specs.declared.actor.Actor.TheVariants.{Lane}
-=======
-use Rattle.std.proofs.Common.{subst, sym, refl, ◌∙◌, Ok, arith}
-use Rattle.core_state.specs.declared.actor.Actor.TheVariants.{Lane}
-use Rattle.core_state.specs.State.{Core}
->>>>>>> f30549a6a10534fb68cd141d050aef0e931043ee
 use Rattle.system_state.specs.Cores.{core_of}
 use Rattle.desk_turns.specs.Passing.{core_seen}
 use Rattle.desk_turns.proofs.Later.{none_kept, own_idle}
 use Rattle.desk_turns.proofs.Went.{worn_went, if_err}
-<<<<<<< HEAD
 use Rattle.call_turns.proofs.Taking.{Found, stood, found_at, gave, turned, worn_holds}
 use Rattle.call_turns.proofs.Keeping.{idle_kept}
 use Rattle.call_turns.proofs.Numbering.{last_fits, begun_fit}
@@ -21,17 +14,6 @@ use Rattle.core_state.specs.State.{Core}
 use Rattle.call_job.specs.Suits.{Suits}
 use Rattle.job_turns.specs.Starting.{StartSays}
 use Rattle.job_turns.proofs.Starts.{given_core, same_state, same_request, starts}
-=======
-use Rattle.event_turns.proofs.Taking.{Found, stood, found_at, gave, turned, worn_holds}
-use Rattle.event_turns.proofs.Keeping.{idle_kept}
-use Rattle.event_turns.proofs.Numbering.{last_fits, begun_fit}
-use Rattle.std.specs.Result.{IsErr}
-use Rattle.call_turns.specs.Beginning.{BeginSays}
-use Rattle.call_turns.proofs.Begins.{begin_numbered}
-use Rattle.call_job.specs.Suits.{Suits}
-use Rattle.job_turns.specs.Jobs.{IsArmedIf}
-use Rattle.job_turns.proofs.Turned.{core_now, job_begin_did, armed_if}
->>>>>>> f30549a6a10534fb68cd141d050aef0e931043ee
 use Rattle.job_turns.proofs.beginning.turn_begin_job.Goals as goal
 
 pub begin_job-answer-requires-clause-hands : goal.begin_job-answer-requires-clause-hands
@@ -118,11 +100,7 @@ give-requires-clause-stands g c =
     let v = g.K.Desk.view c.args.desk.now in
     let u = g.K.Desk.view c.take.new.self in
     let f : Found g.D.Die.seen Suits s p q v u (Lane c.args.lane) = (a.turn.1, a.ok.1, a.seen, a.between, a.alone, c.requires.acts) in
-<<<<<<< HEAD
     let d = begin_did g.D.Die.seen Suits c.args.lane c.args.prepared.now.job.request c.begin_job-answer.new.prepared.picked s c.begin_job-answer.new.state p u c.begin_job-answer.result a.ok.1 c.begin_job-answer.ensures.way c.begin_job-answer.ensures.number c.begin_job-answer.ensures.stands c.begin_job-answer.ensures.picked (same_state s c.begin_job-answer.new.state c.args.prepared.now.job c.begin_job-answer.new.prepared.job c.begin_job-answer.result c.begin_job-answer.ensures.same) in
-=======
-    let d = job_begin_did g.D.Die.seen c.args.lane c.args.prepared.now.job.request c.begin_job-answer.new.prepared.picked s c.begin_job-answer.new.state c.args.prepared.now.job c.begin_job-answer.new.prepared.job p u c.begin_job-answer.result a.ok.1 c.begin_job-answer.ensures.way c.begin_job-answer.ensures.number c.begin_job-answer.ensures.stands c.begin_job-answer.ensures.picked c.begin_job-answer.ensures.same in
->>>>>>> f30549a6a10534fb68cd141d050aef0e931043ee
     gave g.D.Die.seen Suits s c.begin_job-answer.new.state p q v u (Lane c.args.lane) ((BeginSays c.args.lane c.args.prepared.now.job.request c.begin_job-answer.new.prepared.picked c.begin_job-answer.result) (core_of g.D.Die.seen s)) f d
 
 pub returns-clause-did : goal.returns-clause-did
@@ -134,7 +112,6 @@ returns-clause-did g c =
     let v = g.K.Desk.view c.args.desk.now in
     let u = g.K.Desk.view c.take.new.self in
     let f : Found g.D.Die.seen Suits s p q v u (Lane c.args.lane) = (a.turn.1, a.ok.1, a.seen, a.between, a.alone, c.requires.acts) in
-<<<<<<< HEAD
     let d = begin_did g.D.Die.seen Suits c.args.lane c.args.prepared.now.job.request c.begin_job-answer.new.prepared.picked s c.begin_job-answer.new.state p u c.begin_job-answer.result a.ok.1 c.begin_job-answer.ensures.way c.begin_job-answer.ensures.number c.begin_job-answer.ensures.stands c.begin_job-answer.ensures.picked (same_state s c.begin_job-answer.new.state c.args.prepared.now.job c.begin_job-answer.new.prepared.job c.begin_job-answer.result c.begin_job-answer.ensures.same) in
     turned g.D.Die.seen Suits s c.begin_job-answer.new.state p q v u (g.K.Desk.view c.give.new.self) (Lane c.args.lane) (BeginSays c.args.lane c.args.prepared.now.job.request c.begin_job-answer.new.prepared.picked c.begin_job-answer.result) f d c.give.ensures.seen
 
@@ -161,11 +138,6 @@ returns-clause-request g c =
     let b = c.begin_job-answer in
     same_request g.D.Die.seen s b.new.state c.args.lane c.args.prepared.now.job b.new.prepared.job b.result b.ensures.made b.ensures.armed b.ensures.same
 
-=======
-    let d = job_begin_did g.D.Die.seen c.args.lane c.args.prepared.now.job.request c.begin_job-answer.new.prepared.picked s c.begin_job-answer.new.state c.args.prepared.now.job c.begin_job-answer.new.prepared.job p u c.begin_job-answer.result a.ok.1 c.begin_job-answer.ensures.way c.begin_job-answer.ensures.number c.begin_job-answer.ensures.stands c.begin_job-answer.ensures.picked c.begin_job-answer.ensures.same in
-    turned g.D.Die.seen Suits s c.begin_job-answer.new.state p q v u (g.K.Desk.view c.give.new.self) (Lane c.args.lane) (BeginSays c.args.lane c.args.prepared.now.job.request c.begin_job-answer.new.prepared.picked c.begin_job-answer.result) f d c.give.ensures.seen
-
->>>>>>> f30549a6a10534fb68cd141d050aef0e931043ee
 pub returns-clause-numbered : goal.returns-clause-numbered
 returns-clause-numbered g c =
     let a = c.in_ok-system.ensures in
@@ -175,11 +147,7 @@ returns-clause-numbered g c =
     let v = g.K.Desk.view c.args.desk.now in
     let u = g.K.Desk.view c.take.new.self in
     let f : Found g.D.Die.seen Suits s p q v u (Lane c.args.lane) = (a.turn.1, a.ok.1, a.seen, a.between, a.alone, c.requires.acts) in
-<<<<<<< HEAD
     let d = begin_did g.D.Die.seen Suits c.args.lane c.args.prepared.now.job.request c.begin_job-answer.new.prepared.picked s c.begin_job-answer.new.state p u c.begin_job-answer.result a.ok.1 c.begin_job-answer.ensures.way c.begin_job-answer.ensures.number c.begin_job-answer.ensures.stands c.begin_job-answer.ensures.picked (same_state s c.begin_job-answer.new.state c.args.prepared.now.job c.begin_job-answer.new.prepared.job c.begin_job-answer.result c.begin_job-answer.ensures.same) in
-=======
-    let d = job_begin_did g.D.Die.seen c.args.lane c.args.prepared.now.job.request c.begin_job-answer.new.prepared.picked s c.begin_job-answer.new.state c.args.prepared.now.job c.begin_job-answer.new.prepared.job p u c.begin_job-answer.result a.ok.1 c.begin_job-answer.ensures.way c.begin_job-answer.ensures.number c.begin_job-answer.ensures.stands c.begin_job-answer.ensures.picked c.begin_job-answer.ensures.same in
->>>>>>> f30549a6a10534fb68cd141d050aef0e931043ee
     let t = turned g.D.Die.seen Suits s c.begin_job-answer.new.state p q v u (g.K.Desk.view c.give.new.self) (Lane c.args.lane) (BeginSays c.args.lane c.args.prepared.now.job.request c.begin_job-answer.new.prepared.picked c.begin_job-answer.result) f d c.give.ensures.seen in
     λ n is. begin_numbered g.D.Die.seen Suits c.args.lane c.args.prepared.now.job.request c.begin_job-answer.new.prepared.picked q v (g.K.Desk.view c.give.new.self) (Ok c.begin_job-answer.result) n is t
 
@@ -201,25 +169,3 @@ returns-in_err-system-clause-kept g c =
     let u = g.K.Desk.view c.take.new.self in
     worn_holds g.D.Die.seen Suits c.from_residual.result p q v u (Lane c.args.lane) a.turn.1 a.stood a.seen a.between a.alone c.requires.acts
     (own_idle (core_seen (core_of g.D.Die.seen) q v) c.args.lane c.requires.idle.idle)
-<<<<<<< HEAD
-=======
-
-pub returns-clause-armed : goal.returns-clause-armed
-returns-clause-armed g c =
-    let a = c.in_ok-system.ensures in
-    let s = c.in_ok-system.system.state in
-    let t = c.begin_job-answer.new.state in
-    let p = g.K.Desk.opening c.take.new.self in
-    let q = g.K.Desk.opening c.args.desk.now in
-    let v = g.K.Desk.view c.args.desk.now in
-    let u = g.K.Desk.view c.take.new.self in
-    let r = c.begin_job-answer.ensures in
-    let f : Found g.D.Die.seen Suits s p q v u (Lane c.args.lane) = (a.turn.1, a.ok.1, a.seen, a.between, a.alone, c.requires.acts) in
-    let d = job_begin_did g.D.Die.seen c.args.lane c.args.prepared.now.job.request c.begin_job-answer.new.prepared.picked s t c.args.prepared.now.job c.begin_job-answer.new.prepared.job p u c.begin_job-answer.result a.ok.1 r.way r.number r.stands r.picked r.same in
-    let now = core_now g.D.Die.seen s t p q v u (g.K.Desk.view c.give.new.self) (Lane c.args.lane) ((BeginSays c.args.lane c.args.prepared.now.job.request c.begin_job-answer.new.prepared.picked c.begin_job-answer.result) (core_of g.D.Die.seen s)) f d c.give.ensures.seen in
-    subst (λ (x : Core). IsArmedIf x c.args.lane c.args.prepared.now.job c.begin_job-answer.new.prepared.job c.begin_job-answer.result) (sym now)
-    (armed_if g.D.Die.seen (core_of g.D.Die.seen t) c.args.lane s t c.args.prepared.now.job c.begin_job-answer.new.prepared.job c.begin_job-answer.result r.armed r.same)
-
-pub returns-in_err-system-clause-same : goal.returns-in_err-system-clause-same
-returns-in_err-system-clause-same g c = if_err c.from_residual.result refl
->>>>>>> f30549a6a10534fb68cd141d050aef0e931043ee
