@@ -191,8 +191,8 @@ module _ {D J : Type 0} (seen : D → DieView) where
   abbrev pub left_at : Snapshot (State D J) → View (Snapshot (State D J)) Event → ℕ → ℕ → Job → ℕ
   left_at o w lane i job = 2 * (job.reach.pages - i) + one_if (is_away (core_seen C o w) lane i)
 
-  pub next_falls : (o q p : Snapshot (State D J)) (u w : View (Snapshot (State D J)) Event) (lane i : ℕ) (old new : Job) → IsSameButPages old new → i < old.reach.pages → left_at q w lane (i + 1) new < left_at p u lane i old
-  next_falls o q p u w lane i old new same l = next_less old.reach.pages new.reach.pages i (is_away (core_seen C p u) lane i) (is_away (core_seen C q w) lane (i + 1)) (pages_same old new same) l
+  pub next_falls : (q p : Snapshot (State D J)) (u w : View (Snapshot (State D J)) Event) (lane i : ℕ) (old new : Job) → IsSameButPages old new → i < old.reach.pages → left_at q w lane (i + 1) new < left_at p u lane i old
+  next_falls q p u w lane i old new same l = next_less old.reach.pages new.reach.pages i (is_away (core_seen C p u) lane i) (is_away (core_seen C q w) lane (i + 1)) (pages_same old new same) l
 
   pub again_falls : (q z : Snapshot (State D J)) (v u w : View (Snapshot (State D J)) Event) (a : Actor) (lane i : ℕ) (old new : Job) (r : FillStep) (o : Snapshot (State D J)) → z ≡ q → r ≡ Again → v.alone ≡ true → Going o v u a lane i old → IsSameButPages old new → Does u w (StepSays seen q u w a lane i new (Ok r)) → left_at z w lane i new < left_at q u lane i old
   again_falls q z v u w a lane i old new r o same is al p s n =
