@@ -1,4 +1,4 @@
-use Rattle.std.proofs.Common.{ℕ, ◌<◌, ◌≤◌, ◌^◌, ◌∙◌, refl, sym, subst}
+use Rattle.std.proofs.Common.{ℕ, ◌≤◌, ◌^◌, ◌∙◌, refl, sym, subst}
 use Rattle.turn_cell.specs.Passes.{opening_of, view}
 use Rattle.system_state.specs.Cores.{core_of}
 use Rattle.std.specs.declared.snapshot.Snapshot.{Snapshot}
