@@ -39,18 +39,18 @@ use Rattle.system_state.specs.Cores.{core_of}
 use Rattle.system_state.specs.declared.state.State.{State}
 use Rattle.call_job.specs.Suits.{Suits}
 use Rattle.call_job.specs.declared.job.Job.{Job}
-use Rattle.job_events.specs.Ended.{CanEnd}
+use Rattle.job_turns.specs.Ended.{CanEnd}
 use Rattle.job_turns.specs.Finishing.{EndSays}
 use Rattle.desk_turns.specs.Making.{AreOf}
 use Rattle.desk_turns.specs.Passing.{ActsFor, core_after, core_seen, Turn, Went, Does}
 use Rattle.desk_turns.proofs.Holding.{coherent_all}
 use Rattle.desk_turns.proofs.Later.{none_kept}
 use Rattle.desk_turns.proofs.Went.{of_on, went_on, went_turn, found_turn}
-use Rattle.call_turns.specs.Flushing.{HasFailed}
-use Rattle.call_turns.specs.Making.{IsFree}
-use Rattle.call_turns.specs.Words.{IsNumbered}
-use Rattle.call_turns.proofs.FlushSteps.{shape_at}
-use Rattle.call_turns.proofs.Keeping.{at_flight, own_flying}
+use Rattle.job_turns.specs.Flushing.{HasFailed}
+use Rattle.job_turns.specs.Making.{IsFree}
+use Rattle.job_turns.specs.Words.{IsNumbered}
+use Rattle.job_turns.proofs.FlushSteps.{shape_at}
+use Rattle.job_turns.proofs.Keeping.{at_flight, own_flying}
 use Rattle.fill_steps.specs.Gathering.{call_at, told_at, IsBetween}
 use Rattle.fill_steps.specs.Spans.{IsSameButPages, Gathers, SpanSays}
 use Rattle.fill_steps.proofs.Calls.{owned_kept}

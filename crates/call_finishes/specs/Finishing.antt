@@ -24,8 +24,8 @@ use Rattle.system_state.specs.Cores.{core_of}
 use Rattle.system_state.specs.declared.state.State.{State}
 use Rattle.desk_turns.specs.Making.{AreOf}
 use Rattle.desk_turns.specs.Passing.{core_seen, FoundAt}
-use Rattle.call_turns.specs.Flushing.{HasFailed}
-use Rattle.call_turns.specs.Making.{IsFree}
+use Rattle.job_turns.specs.Flushing.{HasFailed}
+use Rattle.job_turns.specs.Making.{IsFree}
 use Rattle.call_job.specs.declared.job.Job.{Job}
 use Rattle.fill_steps.specs.Gathering.{call_at, IsGathering}
 

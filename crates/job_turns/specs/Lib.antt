@@ -2,3 +2,8 @@ pub mod Starting
 pub mod Finishing
 pub mod Collecting
 pub use Rattle.job_events.specs.Armed
+pub use Rattle.job_events.specs.Ended
+pub use Rattle.call_turns.specs.Books
+pub use Rattle.call_turns.specs.Flushing
+pub use Rattle.call_turns.specs.Making
+pub use Rattle.call_turns.specs.Words

@@ -3,8 +3,8 @@ use Rattle.std.specs.Prelude.{not}
 use Rattle.turn_cell.specs.Passes.{opening_of, view}
 use Rattle.core_state.specs.declared.actor.Actor.TheVariants.{Lane}
 use Rattle.call_job.specs.declared.job.Job.{Job}
-use Rattle.call_turns.specs.Books.{opening_in}
-use Rattle.call_turns.specs.Words.{IsSmall}
+use Rattle.job_turns.specs.Books.{opening_in}
+use Rattle.job_turns.specs.Words.{IsSmall}
 use Rattle.call_finishes.proofs.Ending.{does_fill, acts_still, ends_there, held_there, none_there, finish_any, numbered_as}
 use Rattle.call_finishes.proofs.finish.finish_call.Goals as goal
 

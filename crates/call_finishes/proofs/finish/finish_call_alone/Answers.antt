@@ -2,8 +2,8 @@ use Rattle.std.proofs.Common.{sym, ap, subst, inl}
 use Rattle.std.specs.Prelude.{not}
 use Rattle.turn_cell.specs.Desks.{view_alone, opening_alone}
 use Rattle.call_job.specs.declared.job.Job.{Job}
-use Rattle.call_turns.specs.Books.{opening_in}
-use Rattle.call_turns.specs.Words.{IsSmall}
+use Rattle.job_turns.specs.Books.{opening_in}
+use Rattle.job_turns.specs.Words.{IsSmall}
 use Rattle.call_finishes.proofs.Ending.{does_fill, ends_there, held_there, none_there, finish_any, numbered_as, home_after}
 use Rattle.call_finishes.proofs.finish.finish_call_alone.Goals as goal
 
