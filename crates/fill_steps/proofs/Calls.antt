@@ -1,6 +1,6 @@
 -- A call whose pages are gathered, from one core to the next.
-use Rattle.std.proofs.Common.{◌≡◌, ℕ, zero, suc, ◌+◌, ◌<◌, ◌≤◌, Bool, true, false, List, [], ◌∷◌, Option, Some, None, refl, sym, ap, ◌∙◌, subst, inl, inr, ⊎_elim, arith}
-use Rattle.std.specs.Prelude.{◌≢◌, ◌&&◌, ◌||◌, not, is_some, is_none, if◌then◌else◌}
+use Rattle.std.proofs.Common.{◌≡◌, ℕ, ◌<◌, Bool, true, false, Option, Some, None, refl, sym, ap, ◌∙◌, subst, ⊎_elim}
+use Rattle.std.specs.Prelude.{◌≢◌, ◌&&◌, ◌||◌, not, is_some, if◌then◌else◌}
 use Rattle.index_lists.specs.Words.{put}
 use Rattle.index_lists.proofs.Puts.{put-same, put-other}
 use Rattle.index_lists.proofs.Counts.{same_or_not}
@@ -11,25 +11,24 @@ use Rattle.core_state.specs.declared.actor.Actor.TheVariants.{Lane, Worker}
 use Rattle.core_state.specs.declared.event.Event.{Event}
 use Rattle.core_state.specs.declared.event.Event.TheVariants.{Copy, Take, DieOut, FillIn}
 use Rattle.core_state.specs.declared.event.Purpose.TheVariants.{Fill}
-use Rattle.core_state.specs.Words.{or_else, first_to, changed_at}
-use Rattle.core_state.specs.State.{Page, Block, LaneState, Names, Claim, Frame, NoFrame, OnLoan, Phase, Held, Queued, Running, Reported, Mode, Shared, Exclusive, Flight, Errand, ToFill, Out, DieState, Core}
+use Rattle.core_state.specs.Words.{changed_at}
+use Rattle.core_state.specs.State.{Page, Block, LaneState, Claim, NoFrame, OnLoan, Phase, Held, Queued, Running, Reported, Mode, Shared, Exclusive, Flight, ToFill, DieState, Core}
 use Rattle.core_state.specs.Contents.{contents, page_of, span_block, with_copy, is_missing, has_copy, die_of}
-use Rattle.core_state.specs.Reach.{by_mode, gathers}
+use Rattle.core_state.specs.Reach.{by_mode}
 use Rattle.core_state.specs.Dies.{owner}
-use Rattle.core_state.specs.PageEvents.{flight_at, of_block, is_only_there, with_gathered, copied, taken}
-use Rattle.core_state.specs.DieEvents.{is_home, home_filled, marked_if, filled_block, filled_flight, flash_at, filled_for, filled_by, filled}
+use Rattle.core_state.specs.PageEvents.{of_block, is_only_there, with_gathered, copied, taken}
+use Rattle.core_state.specs.DieEvents.{is_home, home_filled, marked_if, filled_block, filled_flight, flash_at, filled_for, filled_by}
 use Rattle.core_state.specs.Coherent.{Coherent}
-use Rattle.core_state.specs.Hold.{Hold, SeenCall, hold}
+use Rattle.core_state.specs.Hold.{SeenCall, hold}
 use Rattle.core_state.specs.Happens.{HoldsNone, after}
 use Rattle.core_state.specs.History.{request_of}
 use Rattle.core_solo.specs.Solo.{IsNext, IsStep, acting, acting_in, page_to_gather, gather_event}
 use Rattle.core_solo.proofs.Nexts.{gather_next_host, gather_next_drive}
-use Rattle.system_state.specs.Jobs.{JobView, view_of}
-use Rattle.system_pages.specs.Ways.{way, way_at}
-use Rattle.system_pages.specs.declared.ways.Way.{Way}
+use Rattle.system_state.specs.Jobs.{view_of}
+use Rattle.system_pages.specs.Ways.{way_at}
 use Rattle.system_pages.specs.declared.ways.Way.TheVariants.{ByPage, ByDie, Busy}
 use Rattle.event_turns.specs.PageTurns.{block_at}
-use Rattle.event_turns.proofs.Keeping.{Again, again, at_flight}
+use Rattle.event_turns.proofs.Keeping.{again, at_flight}
 use Rattle.fill_steps.specs.Gathering.{call_at, told_at, IsOwned, IsBetween, IsSameCall, IsSameBut, IsInTurn, is_away}
 
 -- ---- the same call

@@ -1,5 +1,5 @@
 -- A die comes home from the read of a page.
-use Rattle.std.proofs.Common.{◌≡◌, ℕ, ◌<◌, Bool, true, false, List, [], ◌∷◌, ◌++◌, Some, refl, sym, ap, ◌∙◌, subst, append-nil}
+use Rattle.std.proofs.Common.{◌≡◌, ℕ, ◌<◌, Bool, false, List, [], ◌∷◌, ◌++◌, Some, sym, ap, ◌∙◌, subst, append-nil}
 use Rattle.std.specs.declared.snapshot.Snapshot.{Snapshot}
 use Rattle.turn_cell.specs.declared.book.Entry.{Entry}
 use Rattle.turn_cell.specs.declared.view.View.{View}
@@ -8,7 +8,7 @@ use Rattle.flash_die.specs.Dies.{DieView}
 use Rattle.core_state.specs.declared.actor.Actor.{Actor}
 use Rattle.core_state.specs.declared.event.Event.{Event}
 use Rattle.core_state.specs.declared.event.Event.TheVariants.{FillIn}
-use Rattle.core_state.specs.State.{Page, ToFill, Exclusive, Core}
+use Rattle.core_state.specs.State.{Page, ToFill, Core}
 use Rattle.core_state.specs.DieEvents.{flash_at}
 use Rattle.system_state.specs.Jobs.{JobView}
 use Rattle.system_state.specs.Cores.{core_of}
@@ -20,8 +20,7 @@ use Rattle.system_pages.specs.Back.{FillBack, fill_in_event}
 use Rattle.system_pages.proofs.Filled.{page_is}
 use Rattle.desk_turns.specs.Passing.{core_after, Turn}
 use Rattle.event_turns.specs.Flushing.{HasFailed}
-use Rattle.event_turns.specs.PageTurns.{FillSays, IsFillInHand, block_at}
-use Rattle.fill_steps.specs.Gathering.{call_at}
+use Rattle.event_turns.specs.PageTurns.{FillSays, IsFillInHand}
 use Rattle.fill_steps.specs.Pages.{ComesHome, IsRead}
 
 module _ {D J : Type 0} (seen : D → DieView) (suits : J → JobView → Type 0) where

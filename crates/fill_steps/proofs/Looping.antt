@@ -1,6 +1,6 @@
 -- All pages of a call, page by page.
 use Rattle.std.proofs.Common.{◌≡◌, ℕ, ◌+◌, ◌*◌, ◌-◌, ◌<◌, ◌≤◌, Bool, true, false, List, [], ◌∷◌, ◌++◌, Option, Some, None, refl, sym, ap, ◌∙◌, subst, inl, inr, ⊎_elim, arith}
-use Rattle.std.specs.Prelude.{is_some, is_none, if◌then◌else◌, Result, Ok, Err}
+use Rattle.std.specs.Prelude.{is_none, if◌then◌else◌, Result, Ok, Err}
 use Rattle.std.specs.Result.{IsErr}
 use Rattle.std.specs.declared.snapshot.Snapshot.{Snapshot}
 use Rattle.index_lists.specs.Words.{one_if}
@@ -10,10 +10,10 @@ use Rattle.flash_die.specs.Dies.{DieView}
 use Rattle.plain_files.specs.History.{Entry}
 use Rattle.core_state.specs.declared.actor.Actor.{Actor}
 use Rattle.core_state.specs.declared.event.Event.{Event}
-use Rattle.core_state.specs.State.{Page, Claim, Phase, Reach, Held, Running, Flight, Core}
+use Rattle.core_state.specs.State.{Claim, Reach, Running, Flight, Core}
 use Rattle.core_state.specs.Contents.{is_missing, die_of}
 use Rattle.core_state.specs.DieEvents.{is_home}
-use Rattle.core_state.specs.Happens.{HoldsNone, CoreRun, actor_of, after_all}
+use Rattle.core_state.specs.Happens.{HoldsNone, CoreRun, actor_of}
 use Rattle.core_state.specs.History.{entry_of, and_then, calls_of}
 use Rattle.core_state.proofs.Runs.{leads_to}
 use Rattle.core_solo.specs.Solo.{Steps, IsStep}
@@ -21,17 +21,14 @@ use Rattle.core_solo.proofs.Words.{none_or_some}
 use Rattle.core_solo.proofs.Rooms.{AllHome}
 use Rattle.core_solo.proofs.Folds.{append}
 use Rattle.core_outcomes.proofs.Sent.{run_sent}
-use Rattle.system_state.specs.Cores as cores
 use Rattle.system_state.specs.Cores.{core_of}
-use Rattle.system_state.specs.declared.lanes.Reach as row
 use Rattle.system_state.specs.declared.state.State.{State}
-use Rattle.system_pages.specs.Ways.{way, way_at}
+use Rattle.system_pages.specs.Ways.{way_at}
 use Rattle.system_pages.specs.declared.ways.Way.TheVariants.{ByPage, ByDie, Busy}
 use Rattle.call_job.specs.declared.job.Job.{Job}
 use Rattle.desk_turns.specs.Making.{AreOf}
 use Rattle.desk_turns.specs.Passing.{core_seen, Went, Does}
 use Rattle.desk_turns.proofs.Went.{of_on, went_on, went_none}
-use Rattle.event_turns.specs.Flushing.{HasFailed}
 use Rattle.event_turns.proofs.FlushSteps.{failed_on as earlier}
 use Rattle.event_turns.specs.PageTurns.{block_at}
 use Rattle.fill_steps.specs.Gathering.{call_at, IsBetween, IsGathering, HasSpan, IsSameCall, IsInTurn, is_away}
@@ -191,8 +188,8 @@ module _ {D J : Type 0} (seen : D → DieView) where
   abbrev pub left_at : Snapshot (State D J) → View (Snapshot (State D J)) Event → ℕ → ℕ → Job → ℕ
   left_at o w lane i job = 2 * (job.reach.pages - i) + one_if (is_away (core_seen C o w) lane i)
 
-  pub next_falls : (o q p : Snapshot (State D J)) (u w : View (Snapshot (State D J)) Event) (lane i : ℕ) (old new : Job) → IsSameButPages old new → i < old.reach.pages → left_at q w lane (i + 1) new < left_at p u lane i old
-  next_falls o q p u w lane i old new same l = next_less old.reach.pages new.reach.pages i (is_away (core_seen C p u) lane i) (is_away (core_seen C q w) lane (i + 1)) (pages_same old new same) l
+  pub next_falls : (q p : Snapshot (State D J)) (u w : View (Snapshot (State D J)) Event) (lane i : ℕ) (old new : Job) → IsSameButPages old new → i < old.reach.pages → left_at q w lane (i + 1) new < left_at p u lane i old
+  next_falls q p u w lane i old new same l = next_less old.reach.pages new.reach.pages i (is_away (core_seen C p u) lane i) (is_away (core_seen C q w) lane (i + 1)) (pages_same old new same) l
 
   pub again_falls : (q z : Snapshot (State D J)) (v u w : View (Snapshot (State D J)) Event) (a : Actor) (lane i : ℕ) (old new : Job) (r : FillStep) (o : Snapshot (State D J)) → z ≡ q → r ≡ Again → v.alone ≡ true → Going o v u a lane i old → IsSameButPages old new → Does u w (StepSays seen q u w a lane i new (Ok r)) → left_at z w lane i new < left_at q u lane i old
   again_falls q z v u w a lane i old new r o same is al p s n =

@@ -1,6 +1,6 @@
 -- One step at a page of a call, with its job.
-use Rattle.std.proofs.Common.{◌≡◌, ℕ, zero, suc, ◌+◌, ◌*◌, ◌^◌, ◌<◌, ◌≤◌, Bool, true, false, List, [], ◌∷◌, length, Option, Some, None, refl, sym, ap, ◌∙◌, subst, ⊎_elim, inl, inr, arith}
-use Rattle.std.specs.Prelude.{◌≢◌, ◌⊎◌, ◌==◌, ◌&&◌, ◌/◌, ◌%◌, ◌-◌, nat_lt, not, min, is_some, is_none, if◌then◌else◌, Result, Ok, Err}
+use Rattle.std.proofs.Common.{◌≡◌, ℕ, zero, suc, ◌+◌, ◌*◌, ◌^◌, ◌<◌, ◌≤◌, Bool, true, false, List, [], length, Option, Some, None, refl, sym, ap, ◌∙◌, subst, ⊎_elim, arith}
+use Rattle.std.specs.Prelude.{◌≢◌, ◌==◌, ◌&&◌, ◌/◌, ◌-◌, nat_lt, min, is_some, is_none, if◌then◌else◌, Result, Ok, Err}
 use Rattle.std.proofs.lemmas.Bool.Decides.{nat_tests}
 use Rattle.std.specs.declared.snapshot.Snapshot.{Snapshot}
 use Rattle.page_base.specs.Bytes.{Pages}
@@ -13,9 +13,8 @@ use Rattle.flash_die.specs.Dies.{DieView}
 use Rattle.core_state.specs.declared.actor.Actor.{Actor}
 use Rattle.core_state.specs.declared.event.Event.{Event}
 use Rattle.core_state.specs.Words.{or_else, first_to}
-use Rattle.core_state.specs.State.{Page, Claim, Mode, Shared, Exclusive, Reach, Flight, Core}
-use Rattle.core_state.specs.Reach.{is_exclusive, gathers, range_end, no_reach, read_reach, write_reach, trunc_reach, reach_of}
-use Rattle.core_solo.specs.Solo.{page_to_gather}
+use Rattle.core_state.specs.State.{Page, Claim, Mode, Shared, Exclusive, Reach, Core}
+use Rattle.core_state.specs.Reach.{is_exclusive, gathers, range_end, no_reach, read_reach, write_reach, reach_of}
 use Rattle.system_state.specs.Cores as cores
 use Rattle.system_state.specs.Cores.{core_of}
 use Rattle.system_state.specs.declared.state.State.{State}
@@ -25,7 +24,7 @@ use Rattle.call_job.specs.declared.job.Job.{Job}
 use Rattle.call_job.proofs.Executed.{pool_has}
 use Rattle.desk_turns.specs.Passing.{core_seen, Does}
 use Rattle.desk_turns.proofs.Went.{went_none}
-use Rattle.fill_steps.specs.Gathering.{call_at, told_at, IsBetween, IsGatheredTo, IsGathering, IsSameBut, IsSameCall}
+use Rattle.fill_steps.specs.Gathering.{call_at, told_at, IsBetween, IsGathering, IsSameBut}
 use Rattle.fill_steps.specs.Pages.{IsAtPage, Tried, PageSays}
 use Rattle.fill_steps.specs.Spans.{Gathers, StepSays}
 use Rattle.fill_steps.specs.declared.page.FillStep.{FillStep}

@@ -1,5 +1,5 @@
 -- A job with another page at one place of its span.
-use Rattle.std.proofs.Common.{◌≡◌, ℕ, ◌<◌, Bool, true, false, List, [], length, Option, Some, None, refl, sym, ap, ◌∙◌, subst, ⊎_elim, arith}
+use Rattle.std.proofs.Common.{◌≡◌, ℕ, ◌<◌, List, [], length, Some, None, sym, ap, ◌∙◌, subst, ⊎_elim, arith}
 use Rattle.std.specs.Prelude.{◌≢◌, slice_set, option_map, unwrap_or}
 use Rattle.std.proofs.lemmas.List.{length-set, get_or-set_same, get_or-set_other}
 use Rattle.page_base.specs.Bytes.{zero_page}
@@ -7,10 +7,10 @@ use Rattle.plain_files.specs.declared.calls.Call.{Call}
 use Rattle.plain_files.specs.declared.calls.Call.TheVariants.{Read, Readl, Writel}
 use Rattle.index_lists.proofs.Counts.{same_or_not}
 use Rattle.sbpf_exec.specs.declared.interpreter.Outcome.{Outcome}
-use Rattle.core_state.specs.State.{Page, Claim, Phase, Held, Queued, Running, Reported, Flight}
+use Rattle.core_state.specs.State.{Page, Claim, Phase, Held, Queued, Running, Reported}
 use Rattle.system_state.specs.Jobs.{JobView}
 use Rattle.span_bytes.specs.Spans.{page_in}
-use Rattle.call_job.specs.Buffers.{HasFunction, HasRest}
+use Rattle.call_job.specs.Buffers.{HasRest}
 use Rattle.call_job.specs.Lending.{with_page}
 use Rattle.call_job.specs.Suits.{IsReady, HasResult, Suits, given, put_out}
 use Rattle.sbpf_exec.specs.Outcomes as exec

@@ -11,15 +11,12 @@ use Rattle.core_state.specs.declared.actor.Actor.{Actor}
 use Rattle.core_state.specs.declared.event.Event.{Event}
 use Rattle.core_state.specs.declared.event.Event.TheVariants.{Copy, Take, DieOut, FillIn}
 use Rattle.core_state.specs.declared.event.Purpose.TheVariants.{Fill}
-use Rattle.core_state.specs.State.{Page, Claim, Mode, Shared, Exclusive, Flight, ToFill, Core}
-use Rattle.core_state.specs.Contents.{contents, page_of}
-use Rattle.core_state.specs.DieEvents.{flash_at}
-use Rattle.core_state.specs.PageEvents.{flight_at}
+use Rattle.core_state.specs.State.{Page, Claim, Mode, Shared, Exclusive, Flight, Core}
 use Rattle.core_state.specs.Dies.{owner}
 use Rattle.core_state.specs.Coherent.{Coherent}
 use Rattle.core_state.specs.Happens.{HoldsNone, CoreRun, actor_of, after}
 use Rattle.core_state.specs.History.{entry_of, and_then, calls_of}
-use Rattle.core_solo.specs.Solo.{Steps, IsStep, page_to_gather}
+use Rattle.core_solo.specs.Solo.{Steps, IsStep}
 use Rattle.system_state.specs.Cores.{core_of}
 use Rattle.system_state.specs.declared.errand.Errand.{Errand}
 use Rattle.system_state.specs.declared.not_yet.NotYet.{NotYet}
@@ -28,7 +25,7 @@ use Rattle.system_pages.specs.Ways.{way}
 use Rattle.system_pages.specs.declared.ways.Way.TheVariants.{ByPage, ByDie, Busy}
 use Rattle.system_pages.specs.Events.{copy_event, take_event}
 use Rattle.desk_turns.specs.Making.{AreOf}
-use Rattle.desk_turns.specs.Passing.{ActsFor, IsItsOwn, core_after, core_seen, Turn, Went, Does}
+use Rattle.desk_turns.specs.Passing.{ActsFor, core_after, core_seen, Turn, Went, Does}
 use Rattle.desk_turns.proofs.Later.{none_kept}
 use Rattle.desk_turns.proofs.Went.{went_on, went_turn}
 use Rattle.event_turns.specs.Flushing.{HasFailed}
@@ -38,7 +35,7 @@ use Rattle.event_turns.proofs.Keeping.{at_flight, own_flying}
 use Rattle.fill_steps.specs.Gathering.{call_at, IsOwned, IsBetween, IsSameBut, IsInTurn, is_away}
 use Rattle.fill_steps.specs.Pages.{IsAtPage, IsRead, Tried, IsPutIn, PageSays, put_in, lent}
 use Rattle.fill_steps.specs.declared.page.FillStep.{FillStep}
-use Rattle.fill_steps.specs.declared.page.FillStep.TheVariants.{Next, Again, Failed, Waits}
+use Rattle.fill_steps.specs.declared.page.FillStep.TheVariants.{Next, Waits}
 use Rattle.fill_steps.proofs.Calls.{but_on, owned_kept, but_kept, copy_leaves, take_leaves, out_leaves, failed_leaves, shared_leaves, lent_leaves, away_of, put_in_there, copy_event_is, take_event_is, out_event_is, next_gather, next_home}
 
 pub run_on : (es fs : List Event) (c d e : Core) → CoreRun c es d → CoreRun d fs e → CoreRun c (es ++ fs) e

@@ -1,8 +1,8 @@
 -- What is known of a call while its pages are gathered. This project's own.
-use Rattle.std.specs.Prelude.{◌≡◌, ◌≢◌, ◌⊎◌, ℕ, ◌<◌, ◌≤◌, Bool, true, false, if◌then◌else◌, Option, Some, None, is_some}
+use Rattle.std.specs.Prelude.{◌≡◌, ◌≢◌, ◌⊎◌, ℕ, ◌<◌, ◌≤◌, Bool, true, false, Option, Some, None, is_some}
 use Rattle.dispatcher.specs.declared.side.Side.TheVariants.{Host}
 use Rattle.core_state.specs.declared.actor.Actor.{Actor}
-use Rattle.core_state.specs.State.{Page, Block, Held, Running, Flight, Core}
+use Rattle.core_state.specs.State.{Page, Held, Running, Flight, Core}
 use Rattle.core_state.specs.Contents.{is_missing}
 use Rattle.core_state.specs.Reach.{gathers}
 use Rattle.core_state.specs.Dies.{owner}

@@ -7,7 +7,7 @@ use Rattle.flash_die.specs.Dies.{DieView}
 use Rattle.core_state.specs.declared.actor.Actor.{Actor}
 use Rattle.core_state.specs.declared.event.Event.{Event}
 use Rattle.core_state.specs.declared.event.Event.TheVariants.{FillIn}
-use Rattle.core_state.specs.State.{Page, Mode, Exclusive, ToFill, Out, Core}
+use Rattle.core_state.specs.State.{Page, Mode, Exclusive, ToFill, Core}
 use Rattle.core_state.specs.DieEvents.{flash_at}
 use Rattle.core_state.specs.Happens.{CoreRun}
 use Rattle.core_state.specs.History.{calls_of}

@@ -5,7 +5,9 @@
 
 mod home;
 mod page;
+mod span;
 mod step;
 
 pub use page::FillStep;
+pub use span::{fill_span, fill_span_alone};
 pub use step::fill_step;

@@ -3,13 +3,13 @@ use Rattle.system_state.specs.Cores.{core_of}
 use Rattle.desk_turns.proofs.Went.{worn_went, if_err}
 use Rattle.fill_steps.specs.Pages.{ComesHome}
 use Rattle.fill_steps.proofs.Homing.{comes_home}
-use Rattle.event_turns.proofs.Taking.{Found, stood, one_at, gave, turned, worn_holds, worn_coherent}
+use Rattle.event_turns.proofs.Taking.{Found, stood, one_at, gave, turned}
 use Rattle.event_turns.proofs.Numbering.{reads_fit}
 use Rattle.turn_cell.specs.Events.{events_of}
 use Rattle.system_state.specs.Slots.{die_at}
 use Rattle.system_state.specs.Stands.{DieStands, tally}
 use Rattle.system_pages.specs.Back.{fill_in_event}
-use Rattle.event_turns.proofs.Errands.{fill_owns, fill_found, fill_back}
+use Rattle.event_turns.proofs.Errands.{fill_found, fill_back}
 use Rattle.fill_steps.proofs.home.turn_home.Goals as goal
 
 pub fill_in-requires-clause-errand : goal.fill_in-requires-clause-errand

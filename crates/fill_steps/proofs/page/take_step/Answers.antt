@@ -1,5 +1,4 @@
-use Rattle.std.proofs.Common.{◌≡◌, refl, sym, subst, Option, Some, None, Ok, Err}
-use Rattle.std.specs.Prelude.{Result}
+use Rattle.std.proofs.Common.{◌≡◌, sym, subst, Some, None, Ok}
 use Rattle.system_state.specs.Cores.{core_of}
 use Rattle.system_pages.specs.Events.{take_event}
 use Rattle.desk_turns.specs.Passing.{ActsFor, Turn, Does}
