@@ -1,6 +1,6 @@
 -- One step at a page of a call, with its job.
 use Rattle.std.proofs.Common.{◌≡◌, ℕ, zero, suc, ◌+◌, ◌*◌, ◌^◌, ◌<◌, ◌≤◌, Bool, true, false, List, [], length, Option, Some, None, refl, sym, ap, ◌∙◌, subst, ⊎_elim, arith}
-use Rattle.std.specs.Prelude.{◌≢◌, ◌==◌, ◌&&◌, ◌/◌, ◌-◌, nat_lt, min, is_some, is_none, if◌then◌else◌, Result, Ok, Err}
+use Rattle.std.specs.Prelude.{◌≢◌, ◌==◌, ◌&&◌, ◌/◌, ◌-◌, nat_lt, min, is_some, is_none, if◌then◌else◌, IfOk, Result, Ok, Err}
 use Rattle.std.proofs.lemmas.Bool.Decides.{nat_tests}
 use Rattle.std.specs.declared.snapshot.Snapshot.{Snapshot}
 use Rattle.page_base.specs.Bytes.{Pages}
@@ -256,6 +256,17 @@ module _ {D J : Type 0} (seen : D → DieView) where
 
   pub step_does : (o : Snapshot (State D J)) (v w : View (Snapshot (State D J)) Event) (a : Actor) (lane i : ℕ) (job : Job) (page : Page) (r : Result FillStep Worn) → IsGathering (core_seen C o v) a lane i job → i < job.reach.pages → Does v w (PageSays seen o v w a lane i page r) → Does v w (StepSays seen o v w a lane i (with_page job i page) r)
   step_does o v w a lane i job page r p l s = record { events = s.events; went = s.went; says = step_says o v w a lane i job page r s.events p l s.says }
+
+  -- the job still suits the call where a read failed
+  pub step_left : (o : Snapshot (State D J)) (v w : View (Snapshot (State D J)) Event) (a : Actor) (lane i : ℕ) (job : Job) (page : Page) (r : Result FillStep Worn) → IsGathering (core_seen C o v) a lane i job → i < job.reach.pages → Does v w (PageSays seen o v w a lane i page r) →
+      IfOk r (λ step. step ≡ Failed → Suits (with_page job i page) (told_at (core_seen C o w) lane))
+  step_left o v w a lane i job page (Err y) p l s = tt
+  step_left o v w a lane i job page (Ok Failed) p l s =
+      let b = s.says.0.same in
+      λ e. suits_page job i page (told_at (core_seen C o v) lane) (told_at (core_seen C o w) lane) p.fresh (place_there job i p.suits.ready l) b.call.claim b.call.phase b.code b.readable (λ q k. let z : None ≡ Some q = sym b.page ∙ k in absurd (cc)) b.others p.suits
+  step_left o v w a lane i job page (Ok Next) p l s = λ e. absurd (cc)
+  step_left o v w a lane i job page (Ok Again) p l s = λ e. absurd (cc)
+  step_left o v w a lane i job page (Ok Waits) p l s = λ e. absurd (cc)
 
   -- no turn was needed
   pub passed_step : (o : Snapshot (State D J)) (v : View (Snapshot (State D J)) Event) (a : Actor) (lane i : ℕ) (job : Job) → IsGathering (core_seen C o v) a lane i job → i < job.reach.pages → gathers job.request.call (cores.reach_of job.reach) i ≡ false → Does v v (StepSays seen o v v a lane i job (Ok Next))

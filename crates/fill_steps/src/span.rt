@@ -1,11 +1,12 @@
 //! All pages of a call.
-ghost use Rattle.std.specs.Prelude.{◌≡◌, ◌≤◌, ◌^◌, ℕ, None, IfOk, IfErr};
+ghost use Rattle.std.specs.Prelude.{◌≡◌, ◌≤◌, ◌^◌, ℕ, false, None, IfOk, IfErr};
 ghost use Rattle.turn_cell.specs.Desks.{IsFreeAlone, view_alone, opening_alone, table_alone};
 ghost use Rattle.turn_cell.specs.Steps.{IsWorn};
 ghost use Rattle.system_state.specs.Cores.{core_of};
 ghost use Rattle.desk_turns.specs.Passing.{ActsFor, core_seen, Does};
 ghost use Rattle.event_turns.specs.Books.{opening_in};
-ghost use Rattle.fill_steps.specs.Gathering.{IsGathering};
+ghost use Rattle.call_job.specs.Suits.{Suits};
+ghost use Rattle.fill_steps.specs.Gathering.{told_at, IsGathering};
 ghost use Rattle.fill_steps.specs.Spans.{SpanSays, IsSameButPages};
 
 use crate::page::FillStep;
@@ -34,6 +35,7 @@ pub fn fill_span<'a, D: Die, R: Wait>(
     ensures turn { (⟦<Seated<'a, System<D, Job>, R> as Desk<System<D, Job>>>⟧.table desk.new ≡ ⟦<Seated<'a, System<D, Job>, R> as Desk<System<D, Job>>>⟧.table desk.old) × (⟦<Seated<'a, System<D, Job>, R> as Desk<System<D, Job>>>⟧.opening desk.new ≡ ⟦<Seated<'a, System<D, Job>, R> as Desk<System<D, Job>>>⟧.opening desk.old) }
     ensures did { Does (⟦<Seated<'a, System<D, Job>, R> as Desk<System<D, Job>>>⟧.view desk.old) (⟦<Seated<'a, System<D, Job>, R> as Desk<System<D, Job>>>⟧.view desk.new) (SpanSays D.seen (⟦<Seated<'a, System<D, Job>, R> as Desk<System<D, Job>>>⟧.opening desk.old) (⟦<Seated<'a, System<D, Job>, R> as Desk<System<D, Job>>>⟧.view desk.old) (⟦<Seated<'a, System<D, Job>, R> as Desk<System<D, Job>>>⟧.view desk.new) actor lane job.new result) }
     ensures same { IsSameButPages job.old job.new }
+    ensures left { IfOk result (λ good. good ≡ false → Suits job.new (told_at (core_seen (core_of D.seen) (⟦<Seated<'a, System<D, Job>, R> as Desk<System<D, Job>>>⟧.opening desk.old) (⟦<Seated<'a, System<D, Job>, R> as Desk<System<D, Job>>>⟧.view desk.new)) lane)) }
 {
     let rt = desk.runtime();
     let mut i = 0;
@@ -68,6 +70,7 @@ pub fn fill_span_alone<D: Die>(
     ensures turn { (table_alone alone.new ≡ table_alone alone.old) × (opening_alone opening_in alone.new ≡ opening_alone opening_in alone.old) }
     ensures did { Does (view_alone alone.old) (view_alone alone.new) (SpanSays D.seen (opening_alone opening_in alone.old) (view_alone alone.old) (view_alone alone.new) actor lane job.new result) }
     ensures same { IsSameButPages job.old job.new }
+    ensures left { IfOk result (λ good. good ≡ false → Suits job.new (told_at (core_seen (core_of D.seen) (opening_alone opening_in alone.old) (view_alone alone.new)) lane)) }
     ensures home { IfOk result (λ _. (die : ℕ) → ((core_seen (core_of D.seen) (opening_alone opening_in alone.old) (view_alone alone.new)).dies die).out ≡ None) }
 {
     let mut i = 0;

@@ -1,11 +1,13 @@
 //! One step of a call that gathers its pages.
-ghost use Rattle.std.specs.Prelude.{◌≡◌, ◌<◌, ◌≤◌, ◌^◌, true, false, IfErr};
+ghost use Rattle.std.specs.Prelude.{◌≡◌, ◌<◌, ◌≤◌, ◌^◌, true, false, IfOk, IfErr};
 ghost use Rattle.turn_cell.specs.Steps.{IsWorn};
 ghost use Rattle.core_state.specs.Reach.{is_exclusive};
 ghost use Rattle.system_state.specs.Cores.{core_of, reach_of};
 ghost use Rattle.desk_turns.specs.Passing.{ActsFor, core_seen, Does};
-ghost use Rattle.fill_steps.specs.Gathering.{IsGathering};
+ghost use Rattle.call_job.specs.Suits.{Suits};
+ghost use Rattle.fill_steps.specs.Gathering.{told_at, IsGathering};
 ghost use Rattle.fill_steps.specs.Spans.{StepSays, IsSameButPages};
+ghost use Rattle.fill_steps.specs.declared.page.FillStep.TheVariants.{Failed};
 
 use crate::page::{FillStep, copy_step, take_step};
 use call_job::Job;
@@ -33,6 +35,7 @@ fn copy_into<D: Die, K: Desk<System<D, Job>>>(
     ensures turn { (K.table desk.new ≡ K.table desk.old) × (K.opening desk.new ≡ K.opening desk.old) }
     ensures did { Does (K.view desk.old) (K.view desk.new) (StepSays D.seen (K.opening desk.old) (K.view desk.old) (K.view desk.new) actor lane i job.new result) }
     ensures same { IsSameButPages job.old job.new }
+    ensures left { IfOk result (λ step. step ≡ Failed → Suits job.new (told_at (core_seen (core_of D.seen) (K.opening desk.old) (K.view desk.new)) lane)) }
 {
     let page = job.page_mut(i);
     copy_step(desk, actor, lane, i, page)
@@ -57,6 +60,7 @@ fn take_into<D: Die, K: Desk<System<D, Job>>>(
     ensures turn { (K.table desk.new ≡ K.table desk.old) × (K.opening desk.new ≡ K.opening desk.old) }
     ensures did { Does (K.view desk.old) (K.view desk.new) (StepSays D.seen (K.opening desk.old) (K.view desk.old) (K.view desk.new) actor lane i job.new result) }
     ensures same { IsSameButPages job.old job.new }
+    ensures left { IfOk result (λ step. step ≡ Failed → Suits job.new (told_at (core_seen (core_of D.seen) (K.opening desk.old) (K.view desk.new)) lane)) }
 {
     if !job.gathers(i) {
         return Ok(FillStep::Next);
@@ -84,6 +88,7 @@ pub fn fill_step<D: Die, K: Desk<System<D, Job>>>(
     ensures turn { (K.table desk.new ≡ K.table desk.old) × (K.opening desk.new ≡ K.opening desk.old) }
     ensures did { Does (K.view desk.old) (K.view desk.new) (StepSays D.seen (K.opening desk.old) (K.view desk.old) (K.view desk.new) actor lane i job.new result) }
     ensures same { IsSameButPages job.old job.new }
+    ensures left { IfOk result (λ step. step ≡ Failed → Suits job.new (told_at (core_seen (core_of D.seen) (K.opening desk.old) (K.view desk.new)) lane)) }
 {
     if job.exclusive() {
         take_into(desk, actor, lane, job, i)

@@ -8,7 +8,8 @@ use Rattle.system_state.specs.declared.state.State.{State}
 use Rattle.call_job.specs.declared.job.Job.{Job}
 use Rattle.desk_turns.specs.Passing.{ActsFor, core_seen}
 use Rattle.event_turns.specs.Books.{opening_in}
-use Rattle.fill_steps.specs.Gathering.{IsGathering}
+use Rattle.call_job.specs.Suits.{Suits}
+use Rattle.fill_steps.specs.Gathering.{told_at, IsGathering}
 use Rattle.fill_steps.proofs.Looping.{Going, going_none, on_next, on_again, on_waits, on_failed, on_done, on_worn, same_on}
 use Rattle.fill_steps.proofs.span.fill_span.Goals as goal
 
@@ -81,3 +82,6 @@ loop-preserved g c =
 
 pub returns-then-i-span-clause-did : goal.returns-then-i-span-clause-did
 returns-then-i-span-clause-did g c = on_done g.D.Die.seen (opening_of opening_in c.args.desk.now.turn.now) (view c.args.desk.now.pass) (view c.loop.desk.pass) c.args.actor c.args.lane c.loop.i c.loop.job c.loop.invariant.3 (subst (λ (n : ℕ). n ≤ c.loop.i) c.span.ensures c.if-i-span.true)
+
+pub returns-in-Failed-clause-left : goal.returns-in-Failed-clause-left
+returns-in-Failed-clause-left g c = λ e. subst (λ z. Suits c.fill_step.new.job (told_at (core_seen (core_of g.D.Die.seen) z (view c.fill_step.new.desk.pass)) c.args.lane)) c.loop.invariant.2.1 (c.in_ok-step.ensures.left c.in-Failed.is)

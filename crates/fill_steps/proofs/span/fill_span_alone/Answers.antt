@@ -3,7 +3,8 @@ use Rattle.turn_cell.specs.Desks.{view_alone, opening_alone}
 use Rattle.system_state.specs.Cores.{core_of}
 use Rattle.desk_turns.specs.Passing.{core_seen}
 use Rattle.event_turns.specs.Books.{opening_in}
-use Rattle.fill_steps.specs.Gathering.{IsGathering}
+use Rattle.call_job.specs.Suits.{Suits}
+use Rattle.fill_steps.specs.Gathering.{told_at, IsGathering}
 use Rattle.fill_steps.proofs.Looping.{going_none, on_next, on_again, on_failed, on_done, on_worn, home_on, failed_home, never_waits, next_falls, again_falls, same_on}
 use Rattle.fill_steps.proofs.span.fill_span_alone.Goals as goal
 
@@ -81,3 +82,6 @@ loop-i-smaller-in-Next g c =
 
 pub returns-then-i-span-clause-did : goal.returns-then-i-span-clause-did
 returns-then-i-span-clause-did g c = on_done g.D.Die.seen (opening_alone opening_in c.args.alone.now) (view_alone c.args.alone.now) (view_alone c.loop-i.alone) c.args.actor c.args.lane c.loop-i.i c.loop-i.job c.loop-i.invariant.2 (subst (λ (n : ℕ). n ≤ c.loop-i.i) c.span.ensures c.if-i-span.true)
+
+pub returns-in-Failed-clause-left : goal.returns-in-Failed-clause-left
+returns-in-Failed-clause-left g c = λ e. subst (λ z. Suits c.fill_step.new.job (told_at (core_seen (core_of g.D.Die.seen) z (view_alone c.fill_step.new.desk)) c.args.lane)) c.loop-i.invariant.1.1 (c.in_ok-step.ensures.left c.in-Failed.is)

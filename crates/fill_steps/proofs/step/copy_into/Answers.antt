@@ -1,7 +1,7 @@
 use Rattle.std.proofs.Common.{refl}
 use Rattle.system_state.specs.Cores.{core_of}
 use Rattle.desk_turns.specs.Passing.{core_seen}
-use Rattle.fill_steps.proofs.Stepping.{place_there, shared_page, step_does}
+use Rattle.fill_steps.proofs.Stepping.{place_there, shared_page, step_does, step_left}
 use Rattle.fill_steps.proofs.step.copy_into.Goals as goal
 
 pub page_mut-page-requires : goal.page_mut-page-requires
@@ -15,3 +15,6 @@ returns-clause-did g c = step_does g.D.Die.seen (g.K.Desk.opening c.args.desk.no
 
 pub returns-clause-same : goal.returns-clause-same
 returns-clause-same g c = refl
+
+pub returns-clause-left : goal.returns-clause-left
+returns-clause-left g c = step_left g.D.Die.seen (g.K.Desk.opening c.args.desk.now) (g.K.Desk.view c.args.desk.now) (g.K.Desk.view c.copy_step.new.desk) c.args.actor c.args.lane c.args.i c.args.job.now c.copy_step.new.page c.copy_step.result c.requires.gathering c.requires.within c.copy_step.ensures.did

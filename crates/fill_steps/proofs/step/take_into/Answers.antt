@@ -1,7 +1,7 @@
 use Rattle.std.proofs.Common.{◌∙◌, refl, sym}
 use Rattle.system_state.specs.Cores.{core_of}
 use Rattle.desk_turns.specs.Passing.{core_seen}
-use Rattle.fill_steps.proofs.Stepping.{low_first, passed_step, place_there, lent_page, step_does}
+use Rattle.fill_steps.proofs.Stepping.{low_first, passed_step, place_there, lent_page, step_does, step_left}
 use Rattle.fill_steps.proofs.step.take_into.Goals as goal
 
 pub page_mut-page-requires : goal.page_mut-page-requires
@@ -21,3 +21,6 @@ gathers-requires g c = low_first c.args.job.now c.requires.gathering.suits.ready
 
 pub returns-then-not-gathers-clause-did : goal.returns-then-not-gathers-clause-did
 returns-then-not-gathers-clause-did g c = passed_step g.D.Die.seen (g.K.Desk.opening c.args.desk.now) (g.K.Desk.view c.args.desk.now) c.args.actor c.args.lane c.args.i c.args.job.now c.requires.gathering c.requires.within (sym c.gathers.ensures ∙ c.if-not-gathers.true)
+
+pub returns-clause-left : goal.returns-clause-left
+returns-clause-left g c = step_left g.D.Die.seen (g.K.Desk.opening c.args.desk.now) (g.K.Desk.view c.args.desk.now) (g.K.Desk.view c.take_step.new.desk) c.args.actor c.args.lane c.args.i c.args.job.now c.take_step.new.page c.take_step.result c.requires.gathering c.requires.within c.take_step.ensures.did
