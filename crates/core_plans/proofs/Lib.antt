@@ -12,3 +12,6 @@ pub mod Counted
 pub mod Spared
 pub mod Gathers
 pub mod Unfaulted
+pub mod Answering
+pub mod Lanes
+pub mod Runs

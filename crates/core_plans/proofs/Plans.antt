@@ -20,23 +20,23 @@ use Rattle.core_plans.specs.Failing.{FailAsPlanned, LeaveAsTold, LeavesFrom, spo
 use Rattle.core_plans.proofs.Alike.{Decides, AsSaid, run_same}
 
 -- how many reads and writes each die has made
-record Made : Type 0 where
-  reads : ℕ → ℕ
-  writes : ℕ → ℕ
+pub record Made : Type 0 where
+  pub reads : ℕ → ℕ
+  pub writes : ℕ → ℕ
 
 pub is_itself : (n : ℕ) → (n == n) ≡ true
 is_itself n = grind (arith, nat_tests)
 
 module _ (plans : ℕ → PlanView) (left : ℕ → ℕ → Page) where
-  abbrev next : Made → Event → Made
+  abbrev pub next : Made → Event → Made
   next s e = record { reads = λ d. s.reads d + one_if (is_some (read_of d e)); writes = λ d. s.writes d + one_if (is_some (write_of d e)) }
 
-  record FitsAt (s : Made) (e : Event) (d : ℕ) : Type 0 where
-    read : IsListed (read_of d e) (s.reads d + 1) (plans d).failing_reads
-    write : IsListed (write_of d e) (s.writes d + 1) (plans d).failing_writes
-    spoilt : IfSome (spoilt_by d e) (λ page. page ≡ left d (s.writes d + 1))
+  pub record FitsAt (s : Made) (e : Event) (d : ℕ) : Type 0 where
+    pub read : IsListed (read_of d e) (s.reads d + 1) (plans d).failing_reads
+    pub write : IsListed (write_of d e) (s.writes d + 1) (plans d).failing_writes
+    pub spoilt : IfSome (spoilt_by d e) (λ page. page ≡ left d (s.writes d + 1))
 
-  abbrev Fits : Made → Event → Type 0
+  abbrev pub Fits : Made → Event → Type 0
   Fits s e = (d : ℕ) → FitsAt s e d
 
   -- what the plan answers to the next read and the next write of a die
@@ -83,7 +83,7 @@ module _ (plans : ℕ → PlanView) (left : ℕ → ℕ → Page) where
   same_die : (x y : Bool) (d e : ℕ) → way x d ≡ way y e → (x ≡ y) × (d ≡ e)
   same_die x y d e k = (ap kind_in k, ap die_in k)
 
-  decides : Decides Fits
+  pub decides : Decides Fits
   decides s c (FillIn a1 d1 g1) (FillIn a2 d2 g2) m n p q w te tf =
       fill_told s d1 g1 (te d1).read ∙ (ap (read_told s) (same_die _ _ d1 d2 w).1 ∙ sym (fill_told s d2 g2 (tf d2).read))
   decides s c (FlushIn a1 d1 g1 l1) (FlushIn a2 d2 g2 l2) m n p q w te tf =

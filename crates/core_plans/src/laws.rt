@@ -8,8 +8,8 @@ ghost use Rattle.core_state.specs.Coherent.{Coherent};
 ghost use Rattle.core_state.specs.History.{failures, faults, calls_of, DiePlan, Planned};
 ghost use Rattle.core_state.specs.Happens.{CoreRun};
 ghost use Rattle.core_solo.specs.Solo.{Script, SoloRun};
-ghost use Rattle.core_solo.specs.Alone.{OpeningFrames};
-ghost use Rattle.core_solo.specs.Settling.{IsFresh};
+ghost use Rattle.core_solo.specs.Alone.{OpeningFrames, IsEncoding};
+ghost use Rattle.core_solo.specs.Settling.{IsFresh, AreInOrder};
 ghost use Rattle.core_solo.specs.Served.{starved_of, AreFed, line_calls};
 ghost use Rattle.plain_files.specs.History.{replies, Entry as Called};
 ghost use Rattle.core_state.specs.PlainOf.{plain};
@@ -31,6 +31,8 @@ ghost use Rattle.page_base.specs.Drive.{Drive};
 ghost use Rattle.drive_array.specs.Reads.{share_of, StopsIn, RisesAt, FailsWithin, GivesAll};
 ghost use Rattle.system_start.specs.Started.{at_home};
 ghost use Rattle.core_plans.specs.Gathering.{IsLost};
+ghost use Rattle.core_plans.specs.Running.{RunsAsPlanned};
+ghost use Rattle.core_state.specs.Opening.{new_lane};
 ghost use Rattle.core_plans.specs.Lines.{plan_of, listed_for, IsDieOf, FailAsTold};
 ghost use Rattle.core_plans.specs.Failing.{FailAsPlanned, LeaveAsTold, ListsNone, FailAtMost, TellPlans, BoundFailures, unused};
 
@@ -52,6 +54,14 @@ pub fn plans_determine()
     ensures faultless { (encode : Core → ℕ → Page) (c0 c1 c2 : Core) (script : Script) (last : Bool) (es fs : List Event) →
         OpeningFrames c0.shape → length script.lanes ≡ c0.shape.lanes → Coherent c0 → IsFresh c0 → SoloRun encode c0 script last es c1 → failures es ≡ 0 →
         SoloRun encode c0 script last fs c2 → failures fs ≡ 0 → starved_of es ≡ starved_of fs → es ≡ fs }
+{}
+
+/// For all plans of the dies, and all pages that failed writes may leave, a run of one thread is there that fails so, and in which each call finds memory,
+/// over each script whose lines are in order: by `plans_determine` exactly one.
+pub fn plans_run()
+    ensures { (encode : Core → ℕ → Page) (plans : ℕ → PlanView) (left : ℕ → ℕ → Page) (c0 : Core) (script : Script) (last : Bool) → ((d n : ℕ) → length (left d n) ≡ 4096) →
+        IsEncoding encode → OpeningFrames c0.shape → length script.lanes ≡ c0.shape.lanes → Coherent c0 → IsFresh c0 → ((lane : ℕ) → c0.lanes lane ≡ new_lane) →
+        AreInOrder script → RunsAsPlanned encode plans left c0 script last }
 {}
 
 /// Where the dies' plans list no number, no die event fails.

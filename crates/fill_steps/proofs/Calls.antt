@@ -1,6 +1,6 @@
 -- A call whose pages are gathered, from one core to the next.
-use Rattle.std.proofs.Common.{◌≡◌, ℕ, ◌<◌, Bool, true, false, Option, Some, None, refl, sym, ap, ◌∙◌, subst, ⊎_elim}
-use Rattle.std.specs.Prelude.{◌≢◌, ◌&&◌, ◌||◌, not, is_some, if◌then◌else◌}
+use Rattle.std.proofs.Common.{◌≡◌, ℕ, ◌<◌, Bool, true, false, Option, Some, None, refl, sym, ap, ◌∙◌, subst, ⊎_elim, zero, suc, arith}
+use Rattle.std.specs.Prelude.{◌≢◌, ◌&&◌, ◌||◌, not, is_some, if◌then◌else◌, is_none, option_map}
 use Rattle.index_lists.specs.Words.{put}
 use Rattle.index_lists.proofs.Puts.{put-same, put-other}
 use Rattle.index_lists.proofs.Counts.{same_or_not}
@@ -11,10 +11,10 @@ use Rattle.core_state.specs.declared.actor.Actor.TheVariants.{Lane, Worker}
 use Rattle.core_state.specs.declared.event.Event.{Event}
 use Rattle.core_state.specs.declared.event.Event.TheVariants.{Copy, Take, DieOut, FillIn}
 use Rattle.core_state.specs.declared.event.Purpose.TheVariants.{Fill}
-use Rattle.core_state.specs.Words.{changed_at}
+use Rattle.core_state.specs.Words.{changed_at, or_else, first_to}
 use Rattle.core_state.specs.State.{Page, Block, LaneState, Claim, NoFrame, OnLoan, Phase, Held, Queued, Running, Reported, Mode, Shared, Exclusive, Flight, ToFill, DieState, Core}
 use Rattle.core_state.specs.Contents.{contents, page_of, span_block, with_copy, is_missing, has_copy, die_of}
-use Rattle.core_state.specs.Reach.{by_mode}
+use Rattle.core_state.specs.Reach.{by_mode, gathers}
 use Rattle.core_state.specs.Dies.{owner}
 use Rattle.core_state.specs.PageEvents.{of_block, is_only_there, with_gathered, copied, taken}
 use Rattle.core_state.specs.DieEvents.{is_home, home_filled, marked_if, filled_block, filled_flight, flash_at, filled_for, filled_by}
@@ -29,7 +29,7 @@ use Rattle.system_pages.specs.Ways.{way_at}
 use Rattle.system_pages.specs.declared.ways.Way.TheVariants.{ByPage, ByDie, Busy}
 use Rattle.event_turns.specs.PageTurns.{block_at}
 use Rattle.event_turns.proofs.Keeping.{again, at_flight}
-use Rattle.fill_steps.specs.Gathering.{call_at, told_at, IsOwned, IsBetween, IsSameCall, IsSameBut, IsInTurn, is_away}
+use Rattle.fill_steps.specs.Gathering.{call_at, told_at, IsOwned, IsBetween, IsSameCall, IsSameBut, IsInTurn, IsNextGather, is_away}
 
 -- ---- the same call
 
@@ -254,3 +254,31 @@ acts_in lane (Reported result) a e = cc
 
 pub next_home : (encode : Core → ℕ → Page) (c : Core) (a : Actor) (lane n : ℕ) (good : Bool) → IsOwned false c a lane → IsStep encode lane (call_at c lane).claim.request c (FillIn a n good)
 next_home encode c a lane n good p = record { next = sym (ap (acting lane) p.flies ∙ acts_in lane (call_at c lane).phase a p.owns); open_still = refl }
+
+-- ---- the lowest page, in a later core
+
+first_same : (n : ℕ) (p q : ℕ → Bool) → ((j : ℕ) → j < n → p j ≡ q j) → first_to n p ≡ first_to n q
+unfolding first_to
+first_same zero p q same = refl
+first_same (suc n) p q same =
+    let rest = first_same n p q (λ j l. same j (omega arith)) in
+    let here : p n ≡ q n = same n (omega arith) in
+    λ k. or_else (rest k) (if here k then Some n else None)
+
+pub lowest_kept : (c d : Core) (lane i : ℕ) → IsSameBut c d lane i None → (call_at c lane).gathered i ≡ None → page_to_gather (call_at c lane) ≡ Some i → page_to_gather (call_at d lane) ≡ Some i
+lowest_kept c d lane i s missing lowest =
+    let f = call_at c lane in
+    let g = call_at d lane in
+    ap (λ (z : Claim). first_to z.reach.pages (λ j. gathers z.request.call z.reach j && is_none (g.gathered j))) s.call.claim
+    ∙ (first_same f.claim.reach.pages (λ j. gathers f.claim.request.call f.claim.reach j && is_none (g.gathered j)) (λ j. gathers f.claim.request.call f.claim.reach j && is_none (f.gathered j))
+    (λ j l. ap (λ (o : Option Page). gathers f.claim.request.call f.claim.reach j && is_none o) (at j l))
+    ∙ lowest)
+  where
+    at : (j : ℕ) → j < (call_at c lane).claim.reach.pages → (call_at d lane).gathered j ≡ (call_at c lane).gathered j
+    at j l = ⊎_elim (λ (e : j ≡ i). ap (call_at d lane).gathered e ∙ (s.page ∙ (sym missing ∙ ap (call_at c lane).gathered (sym e)))) (λ (n : j ≢ i). s.others j n l) (same_or_not j i)
+
+pub gathers_next : (c : Core) (a : Actor) (lane i : ℕ) (e : Event) → IsOwned false c a lane → page_to_gather (call_at c lane) ≡ Some i → gather_event c a lane (call_at c lane) i (block_at c lane i) ≡ e → IsNextGather a lane e c
+gathers_next c a lane i e p lowest is =
+    let f = call_at c lane in
+    ap (λ (b : Bool). if b then None else option_map (λ i. gather_event c a lane f i (span_block c.places f.claim i)) (page_to_gather f)) p.mark
+    ∙ (ap (option_map (λ i. gather_event c a lane f i (span_block c.places f.claim i))) lowest ∙ ap (λ (z : Event). Some z) is)

@@ -4,3 +4,4 @@ pub mod Calls
 pub mod Trying
 pub mod Stepping
 pub mod Looping
+pub mod Callers

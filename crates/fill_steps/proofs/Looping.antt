@@ -1,10 +1,11 @@
 -- All pages of a call, page by page.
-use Rattle.std.proofs.Common.{◌≡◌, ℕ, ◌+◌, ◌*◌, ◌-◌, ◌<◌, ◌≤◌, Bool, true, false, List, [], ◌∷◌, ◌++◌, Option, Some, None, refl, sym, ap, ◌∙◌, subst, inl, inr, ⊎_elim, arith}
+use Rattle.std.proofs.Common.{◌≡◌, ℕ, ◌+◌, ◌*◌, ◌-◌, ◌<◌, ◌≤◌, Bool, true, false, List, [], ◌∷◌, ◌++◌, Option, Some, None, refl, sym, ap, ◌∙◌, subst, inl, inr, ⊎_elim, arith, append_assoc}
 use Rattle.std.specs.Prelude.{is_none, if◌then◌else◌, Result, Ok, Err}
 use Rattle.std.specs.Result.{IsErr}
 use Rattle.std.specs.declared.snapshot.Snapshot.{Snapshot}
 use Rattle.index_lists.specs.Words.{one_if}
 use Rattle.turn_cell.specs.declared.view.View.{View}
+use Rattle.turn_cell.specs.History.{entry, StartsWith}
 use Rattle.turn_cell.specs.declared.pass.Worn.{Worn}
 use Rattle.flash_die.specs.Dies.{DieView}
 use Rattle.plain_files.specs.History.{Entry}
@@ -27,11 +28,12 @@ use Rattle.system_pages.specs.Ways.{way_at}
 use Rattle.system_pages.specs.declared.ways.Way.TheVariants.{ByPage, ByDie, Busy}
 use Rattle.call_job.specs.declared.job.Job.{Job}
 use Rattle.desk_turns.specs.Making.{AreOf}
-use Rattle.desk_turns.specs.Passing.{core_seen, Went, Does}
+use Rattle.desk_turns.specs.Passing.{core_seen, FoundAt, Went, Does}
 use Rattle.desk_turns.proofs.Went.{of_on, went_on, went_none}
 use Rattle.event_turns.proofs.FlushSteps.{failed_on as earlier}
 use Rattle.event_turns.specs.PageTurns.{block_at}
-use Rattle.fill_steps.specs.Gathering.{call_at, IsBetween, IsGathering, HasSpan, IsSameCall, IsInTurn, is_away}
+use Rattle.fill_steps.specs.Gathering.{call_at, IsBetween, IsGathering, HasSpan, IsSameCall, IsInTurn, IsNextGather, is_away}
+use Rattle.fill_steps.specs.Pages.{AreNext}
 use Rattle.fill_steps.specs.Spans.{IsSameButPages, Gathers, StepSays, SpanSays}
 use Rattle.fill_steps.specs.declared.page.FillStep.{FillStep}
 use Rattle.fill_steps.specs.declared.page.FillStep.TheVariants.{Next, Again, Failed, Waits}
@@ -111,19 +113,53 @@ module _ {D J : Type 0} (seen : D → DieView) where
   Going o v w a lane i job = Does v w (Gathers seen o v w a lane (λ d. IsGathering d a lane i job))
 
   pub going_none : (o : Snapshot (State D J)) (v : View (Snapshot (State D J)) Event) (a : Actor) (lane : ℕ) (job : Job) → IsGathering (core_seen C o v) a lane 0 job → Going o v v a lane 0 job
-  going_none o v a lane job p = record { events = []; went = went_none v; says = record { of = tt; open_still = refl; call = record { claim = refl; phase = refl }; says = p; run = λ al. refl; solo = λ al turn encode. tt } }
+  going_none o v a lane job p = record { events = []; went = went_none v; says = record { of = tt; open_still = refl; next = tt; call = record { claim = refl; phase = refl }; says = p; run = λ al. refl; solo = λ al turn encode. tt } }
 
   alone_too : (v u : View (Snapshot (State D J)) Event) (es : List Event) → Went v u es → v.alone ≡ true → u.alone ≡ true
   alone_too v u es w a = ap (λ (z : View (Snapshot (State D J)) Event). z.alone) w.pass ∙ a
 
-  joined : (o : Snapshot (State D J)) (v u w : View (Snapshot (State D J)) Event) (a : Actor) (lane : ℕ) (P Q : Core → Type 0) (es fs : List Event) → Went v u es → Gathers seen o v u a lane P es → Gathers seen o u w a lane Q fs → Gathers seen o v w a lane Q (es ++ fs)
-  joined o v u w a lane P Q es fs went p q =
+  -- of events made meanwhile
+  next_later : (o : Snapshot (State D J)) (v u w : View (Snapshot (State D J)) Event) (a : Actor) (lane : ℕ) (es : List Event) → StartsWith w.seen u.seen → w.number ≡ u.number → AreNext seen o v u a lane es → AreNext seen o v w a lane es
+  next_later o v u w a lane [] starts number p = tt
+  next_later o v u w a lane (e ∷ es) starts number p = ((λ no. found_later (p.0 no)), next_later o v u w a lane es starts number p.1)
+    where
+      found_later : FoundAt C o v u e (IsNextGather a lane e) → FoundAt C o v w e (IsNextGather a lane e)
+      found_later f =
+          record {
+            before = f.before;
+            rest = f.rest ++ starts.0;
+            since = f.since;
+            seen = starts.1 ∙ (ap (λ z. z ++ starts.0) (f.seen ∙ (λ k. f.before ++ entry (sym number k) e ∷ f.rest)) ∙ append_assoc f.before (entry w.number e ∷ f.rest) starts.0);
+            says = f.says;
+          }
+
+  next_earlier : (o : Snapshot (State D J)) (v u w : View (Snapshot (State D J)) Event) (a : Actor) (lane : ℕ) (es : List Event) → StartsWith u.seen v.seen → AreNext seen o u w a lane es → AreNext seen o v w a lane es
+  next_earlier o v u w a lane [] starts p = tt
+  next_earlier o v u w a lane (e ∷ es) starts p = ((λ no. found_earlier (p.0 no)), next_earlier o v u w a lane es starts p.1)
+    where
+      found_earlier : FoundAt C o u w e (IsNextGather a lane e) → FoundAt C o v w e (IsNextGather a lane e)
+      found_earlier f =
+          record {
+            before = f.before;
+            rest = f.rest;
+            since = (starts.0 ++ f.since.0, f.since.1 ∙ (ap (λ z. z ++ f.since.0) starts.1 ∙ append_assoc v.seen starts.0 f.since.0));
+            seen = f.seen;
+            says = f.says;
+          }
+
+  next_on : (o : Snapshot (State D J)) (v w : View (Snapshot (State D J)) Event) (a : Actor) (lane : ℕ) (es fs : List Event) → AreNext seen o v w a lane es → AreNext seen o v w a lane fs → AreNext seen o v w a lane (es ++ fs)
+  next_on o v w a lane [] fs p q = q
+  next_on o v w a lane (e ∷ es) fs p q = (p.0, next_on o v w a lane es fs p.1 q)
+
+  joined : (o : Snapshot (State D J)) (v u w : View (Snapshot (State D J)) Event) (a : Actor) (lane : ℕ) (P Q : Core → Type 0) (es fs : List Event) → Went v u es → Went u w fs → Gathers seen o v u a lane P es → Gathers seen o u w a lane Q fs → Gathers seen o v w a lane Q (es ++ fs)
+  joined o v u w a lane P Q es fs went then_went p q =
       let c = core_seen C o v in
       let x = core_seen C o u in
       let f = call_at c lane in
       record {
         of = of_on a es fs p.of q.of;
         open_still = calls_on es fs p.open_still q.open_still;
+        next = next_on o v w a lane es fs (next_later o v u w a lane es then_went.seen (ap (λ (z : View (Snapshot (State D J)) Event). z.number) then_went.pass) p.next) (next_earlier o v u w a lane fs went.seen q.next);
         call = same_call_on f (call_at x lane) (call_at (core_seen C o w) lane) p.call q.call;
         says = q.says;
         run = λ al. run_on es fs c x (core_seen C o w) (p.run al) (q.run (alone_too v u es went al));
@@ -141,17 +177,17 @@ module _ {D J : Type 0} (seen : D → DieView) where
   pub on_next : (o q : Snapshot (State D J)) (v u w : View (Snapshot (State D J)) Event) (a : Actor) (lane i : ℕ) (old new : Job) (r : FillStep) → q ≡ o → r ≡ Next → Going o v u a lane i old → Does u w (StepSays seen q u w a lane i new (Ok r)) → Going o v w a lane (i + 1) new
   on_next o q v u w a lane i old new r same is p n =
       let k = at_opening o q u w a lane i new r Next n.events same is n.says in
-      record { events = p.events ++ n.events; went = went_on v u w p.events n.events p.went n.went; says = joined o v u w a lane (λ d. IsGathering d a lane i old) (λ d. IsGathering d a lane (i + 1) new) p.events n.events p.went p.says k }
+      record { events = p.events ++ n.events; went = went_on v u w p.events n.events p.went n.went; says = joined o v u w a lane (λ d. IsGathering d a lane i old) (λ d. IsGathering d a lane (i + 1) new) p.events n.events p.went n.went p.says k }
 
   pub on_again : (o q : Snapshot (State D J)) (v u w : View (Snapshot (State D J)) Event) (a : Actor) (lane i : ℕ) (old new : Job) (r : FillStep) → q ≡ o → r ≡ Again → Going o v u a lane i old → Does u w (StepSays seen q u w a lane i new (Ok r)) → Going o v w a lane i new
   on_again o q v u w a lane i old new r same is p n =
       let k = at_opening o q u w a lane i new r Again n.events same is n.says in
-      record { events = p.events ++ n.events; went = went_on v u w p.events n.events p.went n.went; says = joined o v u w a lane (λ d. IsGathering d a lane i old) (λ d. IsGathering d a lane i new) p.events n.events p.went p.says k.0 }
+      record { events = p.events ++ n.events; went = went_on v u w p.events n.events p.went n.went; says = joined o v u w a lane (λ d. IsGathering d a lane i old) (λ d. IsGathering d a lane i new) p.events n.events p.went n.went p.says k.0 }
 
   pub on_waits : (o q : Snapshot (State D J)) (v u w : View (Snapshot (State D J)) Event) (a : Actor) (lane i : ℕ) (old new : Job) (r : FillStep) → q ≡ o → r ≡ Waits → Going o v u a lane i old → Does u w (StepSays seen q u w a lane i new (Ok r)) → Going o v w a lane i new
   on_waits o q v u w a lane i old new r same is p n =
       let k = at_opening o q u w a lane i new r Waits n.events same is n.says in
-      record { events = p.events ++ n.events; went = went_on v u w p.events n.events p.went n.went; says = joined o v u w a lane (λ d. IsGathering d a lane i old) (λ d. IsGathering d a lane i new) p.events n.events p.went p.says k.0 }
+      record { events = p.events ++ n.events; went = went_on v u w p.events n.events p.went n.went; says = joined o v u w a lane (λ d. IsGathering d a lane i old) (λ d. IsGathering d a lane i new) p.events n.events p.went n.went p.says k.0 }
 
   pub on_failed : (o q : Snapshot (State D J)) (v u w : View (Snapshot (State D J)) Event) (a : Actor) (lane i : ℕ) (old new : Job) (r : FillStep) → q ≡ o → r ≡ Failed → Going o v u a lane i old → Does u w (StepSays seen q u w a lane i new (Ok r)) → Does v w (SpanSays seen o v w a lane new (Ok false))
   on_failed o q v u w a lane i old new r same is p n =
@@ -159,13 +195,13 @@ module _ {D J : Type 0} (seen : D → DieView) where
       record {
         events = p.events ++ n.events;
         went = went_on v u w p.events n.events p.went n.went;
-        says = (joined o v u w a lane (λ d. IsGathering d a lane i old) (λ d. IsBetween true d a lane) p.events n.events p.went p.says k.0, (k.1.0, earlier seen o v u w k.1.0 p.went.seen k.1.1));
+        says = (joined o v u w a lane (λ d. IsGathering d a lane i old) (λ d. IsBetween true d a lane) p.events n.events p.went n.went p.says k.0, (k.1.0, earlier seen o v u w k.1.0 p.went.seen k.1.1));
       }
 
   pub on_done : (o : Snapshot (State D J)) (v u : View (Snapshot (State D J)) Event) (a : Actor) (lane i : ℕ) (job : Job) → Going o v u a lane i job → job.reach.pages ≤ i → Does v u (SpanSays seen o v u a lane job (Ok true))
   on_done o v u a lane i job p l =
       let g = p.says in
-      record { events = p.events; went = p.went; says = record { of = g.of; open_still = g.open_still; call = g.call; says = has_span (core_seen C o u) a lane i job g.says l; run = g.run; solo = g.solo } }
+      record { events = p.events; went = p.went; says = record { of = g.of; open_still = g.open_still; next = g.next; call = g.call; says = has_span (core_seen C o u) a lane i job g.says l; run = g.run; solo = g.solo } }
 
   pub on_worn : (o q : Snapshot (State D J)) (v u w : View (Snapshot (State D J)) Event) (a : Actor) (lane i : ℕ) (old new : Job) (x : Worn) (r : Result Bool Worn) → IsErr r → Going o v u a lane i old → Does u w (StepSays seen q u w a lane i new (Err x)) → Does v w (SpanSays seen o v w a lane new r)
   on_worn o q v u w a lane i old new x (Ok y) e p n = absurd (cc)

@@ -242,7 +242,7 @@ module _ {D J : Type 0} (seen : D → DieView) where
   C = core_of seen
 
   gathers_as : (o : Snapshot (State D J)) (v w : View (Snapshot (State D J)) Event) (a : Actor) (lane i : ℕ) (m : Bool) (x : Option Page) (P : Core → Type 0) (es : List Event) → Tried seen o v w a lane i m x es → P (core_seen C o w) → Gathers seen o v w a lane P es
-  gathers_as o v w a lane i m x P es t p = record { of = t.of; open_still = t.open_still; call = t.same.call; says = p; run = t.run; solo = t.solo }
+  gathers_as o v w a lane i m x P es t p = record { of = t.of; open_still = t.open_still; next = t.next; call = t.same.call; says = p; run = t.run; solo = t.solo }
 
   pub step_says : (o : Snapshot (State D J)) (v w : View (Snapshot (State D J)) Event) (a : Actor) (lane i : ℕ) (job : Job) (page : Page) (r : Result FillStep Worn) (es : List Event) → IsGathering (core_seen C o v) a lane i job → i < job.reach.pages → PageSays seen o v w a lane i page r es → StepSays seen o v w a lane i (with_page job i page) r es
   step_says o v w a lane i job page (Err y) es p l s = s
@@ -274,5 +274,5 @@ module _ {D J : Type 0} (seen : D → DieView) where
       record {
         events = [];
         went = went_none v;
-        says = record { of = tt; open_still = refl; call = record { claim = refl; phase = refl }; says = passed_over (core_seen C o v) a lane i job p l unwanted; run = λ al. refl; solo = λ al turn encode. tt };
+        says = record { of = tt; open_still = refl; next = tt; call = record { claim = refl; phase = refl }; says = passed_over (core_seen C o v) a lane i job p l unwanted; run = λ al. refl; solo = λ al turn encode. tt };
       }

@@ -16,7 +16,7 @@ use Rattle.core_state.specs.Dies.{owner}
 use Rattle.core_state.specs.Coherent.{Coherent}
 use Rattle.core_state.specs.Happens.{HoldsNone, CoreRun, actor_of, after}
 use Rattle.core_state.specs.History.{entry_of, and_then, calls_of}
-use Rattle.core_solo.specs.Solo.{Steps, IsStep}
+use Rattle.core_solo.specs.Solo.{Steps, IsStep, gather_event}
 use Rattle.system_state.specs.Cores.{core_of}
 use Rattle.system_state.specs.declared.errand.Errand.{Errand}
 use Rattle.system_state.specs.declared.not_yet.NotYet.{NotYet}
@@ -27,16 +27,16 @@ use Rattle.system_pages.specs.Events.{copy_event, take_event}
 use Rattle.desk_turns.specs.Making.{AreOf}
 use Rattle.desk_turns.specs.Passing.{ActsFor, core_after, core_seen, Turn, Went, Does}
 use Rattle.desk_turns.proofs.Later.{none_kept}
-use Rattle.desk_turns.proofs.Went.{went_on, went_turn}
+use Rattle.desk_turns.proofs.Went.{went_on, went_turn, found_turn}
 use Rattle.event_turns.specs.Flushing.{HasFailed}
 use Rattle.event_turns.specs.PageTurns.{MayGather, GatherSays, block_at}
 use Rattle.event_turns.proofs.FlushSteps.{shape_at, leaves, acts_on, failed_on}
 use Rattle.event_turns.proofs.Keeping.{at_flight, own_flying}
-use Rattle.fill_steps.specs.Gathering.{call_at, IsOwned, IsBetween, IsSameBut, IsInTurn, is_away}
-use Rattle.fill_steps.specs.Pages.{IsAtPage, IsRead, Tried, IsPutIn, PageSays, put_in, lent}
+use Rattle.fill_steps.specs.Gathering.{call_at, IsOwned, IsBetween, IsSameBut, IsInTurn, IsNextGather, is_away}
+use Rattle.fill_steps.specs.Pages.{IsAtPage, IsRead, AreNext, Tried, IsPutIn, PageSays, put_in, lent}
 use Rattle.fill_steps.specs.declared.page.FillStep.{FillStep}
 use Rattle.fill_steps.specs.declared.page.FillStep.TheVariants.{Next, Waits}
-use Rattle.fill_steps.proofs.Calls.{but_on, owned_kept, but_kept, copy_leaves, take_leaves, out_leaves, failed_leaves, shared_leaves, lent_leaves, away_of, put_in_there, copy_event_is, take_event_is, out_event_is, next_gather, next_home}
+use Rattle.fill_steps.proofs.Calls.{but_on, owned_kept, but_kept, copy_leaves, take_leaves, out_leaves, failed_leaves, shared_leaves, lent_leaves, away_of, put_in_there, copy_event_is, take_event_is, out_event_is, next_gather, next_home, lowest_kept, gathers_next}
 
 pub run_on : (es fs : List Event) (c d e : Core) → CoreRun c es d → CoreRun d fs e → CoreRun c (es ++ fs) e
 run_on [] fs c d e r s = subst (λ (x : Core). CoreRun x fs e) r s
@@ -107,13 +107,17 @@ module _ {D J : Type 0} (seen : D → DieView) where
   run_alone : (o : Snapshot (State D J)) (v u : View (Snapshot (State D J)) Event) (P : Core → List Event → Type 0) → (t : Turn C o v u P) → v.alone ≡ true → CoreRun (core_seen C o v) t.events (core_seen C o u)
   run_alone o v u P t a = subst (λ (c : Core). CoreRun c t.events (core_seen C o u)) (still_alone o v u P t a) t.run
 
+  number_on : (o : Snapshot (State D J)) (v u : View (Snapshot (State D J)) Event) (P : Core → List Event → Type 0) → Turn C o v u P → u.number ≡ v.number
+  number_on o v u P t = ap (λ (z : View (Snapshot (State D J)) Event). z.number) t.pass
+
   -- ---- one turn
 
   one_tried : (o : Snapshot (State D J)) (v u : View (Snapshot (State D J)) Event) (P : Core → List Event → Type 0) (a : Actor) (lane i : ℕ) (mode : Mode) (e : Event) (x : Option Page) → ActsFor C o v a → IsAtPage (core_seen C o v) a lane i mode → (t : Turn C o v u P) → t.events ≡ e ∷ [] → actor_of e ≡ a → entry_of e ≡ None →
       (IsBetween false (core_after C o (v.seen ++ t.between)) a lane → IsBetween false (after (core_after C o (v.seen ++ t.between)) e) a lane × IsSameBut (core_after C o (v.seen ++ t.between)) (after (core_after C o (v.seen ++ t.between)) e) lane i x) →
+      (IsSameBut (core_seen C o v) (core_after C o (v.seen ++ t.between)) lane i None → gather_event (core_after C o (v.seen ++ t.between)) a lane (call_at (core_after C o (v.seen ++ t.between)) lane) i (block_at (core_after C o (v.seen ++ t.between)) lane i) ≡ e) →
       (v.alone ≡ true → IsInTurn (call_at (core_seen C o v) lane) → (encode : Core → ℕ → Page) → IsStep encode lane (call_at (core_seen C o v) lane).claim.request (core_seen C o v) e) →
       Tried seen o v u a lane i false x t.events
-  one_tried o v u P a lane i mode e x acts p t is mine ends leave step =
+  one_tried o v u P a lane i mode e x acts p t is mine ends leave event step =
       let c = core_seen C o v in
       let c2 = core_after C o (v.seen ++ t.between) in
       let b = before c a lane i mode p.may in
@@ -123,6 +127,7 @@ module _ {D J : Type 0} (seen : D → DieView) where
       record {
         of = subst (AreOf a) (sym is) (mine, tt);
         open_still = ap calls_of is ∙ ap (λ o. and_then o []) ends;
+        next = subst (AreNext seen o v u a lane) (sym is) ((λ no. found_turn C o v u u P e (IsNextGather a lane e) t is (gathers_next c2 a lane i e k.0 (lowest_kept c c2 lane i k.1 b.missing p.lowest) (event k.1)) ([], sym (append-nil u.seen)) (number_on o v u P t)), tt);
         between = subst (λ (d : Core). IsBetween false d a lane) to l.0;
         same = subst (λ (d : Core). IsSameBut c d lane i x) to (but_on c c2 (after c2 e) lane i None x k.1 l.1);
         run = run_alone o v u P t;
@@ -141,6 +146,7 @@ module _ {D J : Type 0} (seen : D → DieView) where
         went = went_turn C o v u P t;
         says = one_tried o v u P a lane i Shared (Copy a lane i) (Some page) acts p t t.says.0 refl refl
             (λ k. let l = copy_leaves c2 a lane i k in (l.0, subst (λ (z : Page). IsSameBut c2 (after c2 (Copy a lane i)) lane i (Some z)) (sym (got.page_is refl)) l.1))
+            (λ q. copy_event_is c2 a lane i (call_at c2 lane) (block_at c2 lane i) (ap (λ (z : Claim). z.reach.mode) q.call.claim ∙ b.mode_is) got.way_is)
             (λ al turn encode.
             let here = subst (λ (z : Core). way z lane i ≡ ByPage) (still_alone o v u P t al) got.way_is in
             next_gather encode c a lane i (Copy a lane i) b.between.owned turn p.lowest (copy_event_is c a lane i (call_at c lane) (block_at c lane i) b.mode_is here) refl);
@@ -158,6 +164,7 @@ module _ {D J : Type 0} (seen : D → DieView) where
         went = went_turn C o v u P t;
         says = one_tried o v u P a lane i Exclusive (Take a lane i) (Some page) acts p t t.says.0 refl refl
             (λ k. let l = take_leaves c2 a lane i k in (l.0, subst (λ (z : Page). IsSameBut c2 (after c2 (Take a lane i)) lane i (Some z)) (sym (got.page_is refl)) l.1))
+            (λ q. take_event_is c2 a lane i (call_at c2 lane) (block_at c2 lane i) (ap (λ (z : Claim). z.reach.mode) q.call.claim ∙ b.mode_is) got.way_is)
             (λ al turn encode.
             let here = subst (λ (z : Core). way z lane i ≡ ByPage) (still_alone o v u P t al) got.way_is in
             next_gather encode c a lane i (Take a lane i) b.between.owned turn p.lowest (take_event_is c a lane i (call_at c lane) (block_at c lane i) b.mode_is here) refl);
@@ -181,6 +188,7 @@ module _ {D J : Type 0} (seen : D → DieView) where
           record {
             of = subst (AreOf a) (sym is) tt;
             open_still = ap calls_of is;
+            next = subst (AreNext seen o v u a lane) (sym is) tt;
             between = subst (λ (d : Core). IsBetween false d a lane) still (record { owned = k.0; none = found_none o v u P a lane t acts b.between });
             same = subst (λ (d : Core). IsSameBut c d lane i None) still k.1;
             run = run_alone o v u P t;
@@ -211,10 +219,12 @@ module _ {D J : Type 0} (seen : D → DieView) where
       let Q = IsRead a lane i n page good in
       let c = core_seen C o v in
       let x = core_seen C o u in
+      let c2 = core_after C o (v.seen ++ t.between) in
       let c3 = core_after C o (u.seen ++ s.between) in
       let out = DieOut a n (Fill lane i) in
       let home = FillIn a n good in
       let b = before c a lane i mode p.may in
+      let first = found_owned o v u P a lane i None t acts b.between.owned b.within b.missing in
       let k = sent_owned o v u P a lane i n mode acts p t is in
       let acts_u = acts_on seen o v u a P t acts in
       let within = subst (λ (z : Claim). i < z.reach.pages) (sym k.1.call.claim) b.within in
@@ -227,15 +237,16 @@ module _ {D J : Type 0} (seen : D → DieView) where
       record {
         of = subst (AreOf a) (sym es) (refl, (refl, tt));
         open_still = ap calls_of es;
+        next = subst (AreNext seen o v w a lane) (sym es) ((λ no. found_turn C o v u w P out (IsNextGather a lane out) t is (gathers_next c2 a lane i out first.0 (lowest_kept c c2 lane i first.1 b.missing p.lowest) (out_event_is c2 a lane i n (call_at c2 lane) (block_at c2 lane i) way_is)) (went_turn C o u w Q s).seen (number_on o u w Q s ∙ number_on o v u P t)), ((λ no. absurd (cc)), tt));
         between = subst (λ (d : Core). IsBetween (not good) d a lane) to l.0;
         same = subst (λ (d : Core). IsSameBut c d lane i (with_page mode good page)) to (but_on c c3 (after c3 home) lane i None (with_page mode good page) so_far l.1);
         run = λ al. run_on t.events s.events c x (core_seen C o w) (run_alone o v u P t al) (run_alone o u w Q s (alone_on o v u P t al));
         solo = λ al turn encode.
             let here = subst (λ (z : Core). way z lane i ≡ ByDie n) (still_alone o v u P t al) way_is in
-            let first = next_gather encode c a lane i out b.between.owned turn p.lowest (out_event_is c a lane i n (call_at c lane) (block_at c lane i) here) refl in
+            let one = next_gather encode c a lane i out b.between.owned turn p.lowest (out_event_is c a lane i n (call_at c lane) (block_at c lane i) here) refl in
             let d = after c out in
             let then = next_home encode d a lane n good (out_leaves c a n lane i None b.between.owned b.missing).0 in
-            subst (λ (fs : List Event). Steps (IsStep encode lane (call_at c lane).claim.request) c fs) (sym es) (first, (then, tt));
+            subst (λ (fs : List Event). Steps (IsStep encode lane (call_at c lane).claim.request) c fs) (sym es) (one, (then, tt));
       }
 
   put_in_page : (o : Snapshot (State D J)) (v u w : View (Snapshot (State D J)) Event) (P : Core → List Event → Type 0) (a : Actor) (lane i n : ℕ) (page : Page) → ActsFor C o v a → IsAtPage (core_seen C o v) a lane i Shared → (t : Turn C o v u P) → t.events ≡ DieOut a n (Fill lane i) ∷ [] →

@@ -2,6 +2,7 @@
 use Rattle.std.specs.Prelude.{◌≡◌, ◌≢◌, ◌⊎◌, ℕ, ◌<◌, ◌≤◌, Bool, true, false, Option, Some, None, is_some}
 use Rattle.dispatcher.specs.declared.side.Side.TheVariants.{Host}
 use Rattle.core_state.specs.declared.actor.Actor.{Actor}
+use Rattle.core_state.specs.declared.event.Event.{Event}
 use Rattle.core_state.specs.State.{Page, Held, Running, Flight, Core}
 use Rattle.core_state.specs.Contents.{is_missing}
 use Rattle.core_state.specs.Reach.{gathers}
@@ -9,6 +10,7 @@ use Rattle.core_state.specs.Dies.{owner}
 use Rattle.core_state.specs.PageEvents.{flight_at, of_block}
 use Rattle.core_state.specs.LaneEvents.{HasGathered}
 use Rattle.core_state.specs.Happens.{HoldsNone}
+use Rattle.core_solo.specs.Solo.{gathering}
 use Rattle.system_state.specs.Jobs.{JobView, view_of}
 use Rattle.call_job.specs.declared.job.Job.{Job}
 use Rattle.call_job.specs.Suits.{Suits}
@@ -73,3 +75,7 @@ is_away c lane i = of_block c.blocks (block_at c lane i) is_missing
 -- the run of one thread gathers the call's pages at this phase: the call is held at the host, or is with a worker
 abbrev pub IsInTurn : Flight → Type 0
 IsInTurn f = ((f.phase ≡ Held) × (f.claim.side ≡ Host)) ⊎ ((worker : ℕ) × (f.phase ≡ Running worker))
+
+-- in core c the event is the next one that gathers a page of the lane's call: the lowest that is still to be gathered
+abbrev pub IsNextGather : Actor → ℕ → Event → Core → Type 0
+IsNextGather actor lane e c = gathering c actor lane (call_at c lane) ≡ Some e

@@ -9,7 +9,7 @@ use Rattle.core_state.specs.declared.event.Event.{Event}
 use Rattle.core_state.specs.declared.event.Event.TheVariants.{FillIn}
 use Rattle.core_state.specs.State.{Page, Mode, Exclusive, ToFill, Core}
 use Rattle.core_state.specs.DieEvents.{flash_at}
-use Rattle.core_state.specs.Happens.{CoreRun}
+use Rattle.core_state.specs.Happens.{CoreRun, is_homecoming}
 use Rattle.core_state.specs.History.{calls_of}
 use Rattle.core_solo.specs.Solo.{Steps, IsStep, page_to_gather}
 use Rattle.system_state.specs.Cores.{core_of}
@@ -19,10 +19,10 @@ use Rattle.system_state.specs.declared.state.State.{State}
 use Rattle.system_pages.specs.Ways.{way}
 use Rattle.system_pages.specs.declared.ways.Way.TheVariants.{Busy}
 use Rattle.desk_turns.specs.Making.{AreOf}
-use Rattle.desk_turns.specs.Passing.{core_seen}
+use Rattle.desk_turns.specs.Passing.{core_seen, FoundAt}
 use Rattle.event_turns.specs.Flushing.{HasFailed}
 use Rattle.event_turns.specs.PageTurns.{MayGather, FillSays, block_at}
-use Rattle.fill_steps.specs.Gathering.{call_at, IsBetween, IsSameBut, IsInTurn, is_away}
+use Rattle.fill_steps.specs.Gathering.{call_at, IsBetween, IsSameBut, IsInTurn, IsNextGather, is_away}
 use Rattle.fill_steps.specs.declared.page.FillStep.{FillStep}
 use Rattle.fill_steps.specs.declared.page.FillStep.TheVariants.{Next, Again, Failed, Waits}
 
@@ -49,11 +49,18 @@ module _ {D J : Type 0} (seen : D → DieView) where
   abbrev C : State D J → Core
   C = core_of seen
 
+  -- From one view to a later one each of these events, unless it brings a die home, was the next one that gathers a page of the call, in the
+  -- core in which it was made.
+  abbrev pub AreNext : Snapshot (State D J) → View (Snapshot (State D J)) Event → View (Snapshot (State D J)) Event → Actor → ℕ → List Event → Type 0
+  AreNext o v w actor lane [] = Unit {0}
+  AreNext o v w actor lane (e ∷ es) = (is_homecoming e ≡ false → FoundAt C o v w e (IsNextGather actor lane e)) × AreNext o v w actor lane es
+
   -- The events are the actor's and end no call. In the core as it was last seen the actor has its call still and holds no die; the call is
   -- the same but that it has x gathered at place i. Where the pass is alone the events are the call's next ones in the run of one thread.
   pub record Tried (o : Snapshot (State D J)) (v w : View (Snapshot (State D J)) Event) (actor : Actor) (lane i : ℕ) (marked : Bool) (x : Option Page) (es : List Event) : Type 0 where
     pub of : AreOf actor es
     pub open_still : calls_of es ≡ []
+    pub next : AreNext o v w actor lane es
     pub between : IsBetween marked (core_seen C o w) actor lane
     pub same : IsSameBut (core_seen C o v) (core_seen C o w) lane i x
     pub run : v.alone ≡ true → CoreRun (core_seen C o v) es (core_seen C o w)

@@ -19,7 +19,7 @@ use Rattle.desk_turns.specs.Making.{AreOf}
 use Rattle.desk_turns.specs.Passing.{core_seen}
 use Rattle.event_turns.specs.Flushing.{HasFailed}
 use Rattle.fill_steps.specs.Gathering.{call_at, IsBetween, IsGathering, HasSpan, IsSameCall, IsInTurn}
-use Rattle.fill_steps.specs.Pages.{IsPutIn}
+use Rattle.fill_steps.specs.Pages.{AreNext, IsPutIn}
 use Rattle.fill_steps.specs.declared.page.FillStep.{FillStep}
 use Rattle.fill_steps.specs.declared.page.FillStep.TheVariants.{Next, Again, Failed, Waits}
 
@@ -31,11 +31,12 @@ module _ {D J : Type 0} (seen : D → DieView) where
   abbrev C : State D J → Core
   C = core_of seen
 
-  -- The events are the actor's and end no call, the call is the same, and P holds of the core as it was last seen. Where the pass is alone
+  -- The events are the actor's and end no call, each is the next one that gathers a page of the call, the call is the same, and P holds of the core as it was last seen. Where the pass is alone
   -- the events are the call's next ones in the run of one thread.
   pub record Gathers (o : Snapshot (State D J)) (v w : View (Snapshot (State D J)) Event) (actor : Actor) (lane : ℕ) (P : Core → Type 0) (es : List Event) : Type 0 where
     pub of : AreOf actor es
     pub open_still : calls_of es ≡ []
+    pub next : AreNext seen o v w actor lane es
     pub call : IsSameCall (call_at (core_seen C o v) lane) (call_at (core_seen C o w) lane)
     pub says : P (core_seen C o w)
     pub run : v.alone ≡ true → CoreRun (core_seen C o v) es (core_seen C o w)
