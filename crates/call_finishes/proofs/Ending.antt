@@ -1,6 +1,7 @@
 -- A call that has gathered its pages ends.
-use Rattle.std.proofs.Common.{◌≡◌, ℕ, ◌<◌, Bool, true, false, List, [], ◌∷◌, ◌++◌, Option, Some, None, refl, sym, ap, ◌∙◌, subst, inl, inr, ⊎_elim, append-nil, append_assoc}
+use Rattle.std.proofs.Common.{◌≡◌, ℕ, ◌<◌, Bool, true, false, List, [], ◌∷◌, ◌++◌, Option, Some, None, refl, sym, ap, ◌∙◌, subst, inl, inr, ⊎_elim, append-nil, lit≤}
 use Rattle.std.specs.Prelude.{map, ◌⊎◌, ◌&&◌, not, is_some, is_none, if◌then◌else◌, Result, Ok, Err, IfOk, IfErr}
+use Rattle.std.specs.Result.{IsErr}
 use Rattle.std.specs.declared.snapshot.Snapshot.{Snapshot}
 use Rattle.turn_cell.specs.declared.book.Entry.{Entry}
 use Rattle.turn_cell.specs.declared.view.View.{View}
@@ -33,7 +34,6 @@ use Rattle.core_state.specs.History.{calls_of}
 use Rattle.core_state.proofs.Runs.{leads_to}
 use Rattle.core_history.proofs.Faults.{ended_lanes}
 use Rattle.core_solo.specs.Solo.{Steps, IsStep, IsNext, page_to_gather, end_event}
-use Rattle.core_solo.proofs.Words.{none_or_some, first_found}
 use Rattle.core_solo.proofs.Rests.{ended_is}
 use Rattle.core_solo.proofs.Nexts.{end_next_host}
 use Rattle.system_state.specs.Cores.{core_of}
@@ -54,10 +54,11 @@ use Rattle.job_turns.specs.Words.{IsNumbered}
 use Rattle.job_turns.proofs.FlushSteps.{shape_at}
 use Rattle.job_turns.proofs.Keeping.{at_flight, own_flying}
 use Rattle.fill_steps.specs.Gathering.{call_at, told_at, IsBetween}
-use Rattle.fill_steps.specs.Spans.{IsSameButPages, Gathers, SpanSays}
+use Rattle.fill_steps.specs.Spans.{IsSameButPages, IsBrokenOff, Gathers, SpanSays}
 use Rattle.fill_steps.proofs.Calls.{owned_kept}
+use Rattle.fill_steps.proofs.Callers.{none_left, starts_on, failed_still, found_since}
 use Rattle.fill_steps.proofs.Trying.{run_on, still_alone}
-use Rattle.fill_steps.proofs.Looping.{home_again}
+use Rattle.fill_steps.proofs.Looping.{broken_off, home_again}
 use Rattle.call_finishes.specs.Finishing.{IsBegun, EndsIn, FinishSays}
 use Rattle.call_finishes.proofs.Marks.{saw_failure}
 
@@ -66,20 +67,6 @@ use Rattle.call_finishes.proofs.Marks.{saw_failure}
 data_no_sync : (k : Call) → is_data k ≡ true → is_sync k ≡ false
 data_no_sync Sync e = absurd (cc)
 data_no_sync k e = refl
-
--- all is gathered
-none_left : (x : Flight) → HasGathered x → page_to_gather x ≡ None
-none_left x all =
-    ⊎_elim (λ e. e)
-    (λ (s : (i : ℕ) × (page_to_gather x ≡ Some i)).
-    let k = first_found x.claim.reach.pages (λ i. gathers x.claim.request.call x.claim.reach i && is_none (x.gathered i)) s.0 s.1 in
-    absurd (no (gathers x.claim.request.call x.claim.reach s.0) (x.gathered s.0) (all s.0 k.0) k.1))
-    (none_or_some (page_to_gather x))
-  where
-    no : (t : Bool) (o : Option Page) → (t ≡ true → is_some o ≡ true) → (t && is_none o) ≡ true → ⊥
-    no false o k e = absurd (cc)
-    no true None k e = let z = k refl in absurd (cc)
-    no true (Some p) k e = absurd (cc)
 
 -- its lane is free then
 pub free_ended : (c : Core) (lane : ℕ) (request : Request) (reply : Reply) → HoldsNone c (Lane lane) → (lane < c.shape.lanes) × ((c.lanes lane).stage ≡ Inside) → IsFree (after c (End lane request reply)) lane
@@ -142,9 +129,6 @@ end_next encode m c lane request n job p e =
     left : (m : Bool) → (c.lanes lane).mark ≡ m → (m ≡ false → page_to_gather e.may.call ≡ None) → ((c.lanes lane).mark ≡ true) ⊎ (page_to_gather e.may.call ≡ None)
     left true is k = inl is
     left false is k = inr (k refl)
-
-pub starts_on : (xs ys zs : List (Entry Event)) → StartsWith ys xs → StartsWith zs ys → StartsWith zs xs
-starts_on xs ys zs p q = (p.0 ++ q.0, q.1 ∙ (ap (λ z. z ++ q.0) p.1 ∙ append_assoc xs p.0 q.0))
 
 module _ {D : Type 0} (seen : D → DieView) where
   abbrev C : State D Job → Core
@@ -224,9 +208,6 @@ module _ {D : Type 0} (seen : D → DieView) where
 
   -- ---- the end
 
-  failed_still : (o : S) (v u w : V) (die : ℕ) → StartsWith w.seen u.seen → HasFailed seen o v u die → HasFailed seen o v w die
-  failed_still o v u w die starts f = record { h = f.h; since = f.since; until = starts_on f.h u.seen w.seen f.until starts; left = f.left; now = f.now; stood = f.stood; rose = f.rose }
-
   ends_in : (o : S) (v u w : V) (lane : ℕ) (m : Bool) (job : Job) (n : Numbered) → ActsFor C o u (Lane lane) → IsFilled m (core_seen C o u) lane job → (t : Turn C o u w (EndSays lane job.request n)) → MayEnd (core_after C o (u.seen ++ t.between)) lane job.request n.reply → EndsIn m lane job.request n (core_after C o (u.seen ++ t.between))
   ends_in o v u w lane m job n acts p t may =
       let d = core_seen C o u in
@@ -265,9 +246,9 @@ module _ {D : Type 0} (seen : D → DieView) where
           of = of_on (Lane lane) p.events t.events p.says.of (subst (AreOf (Lane lane)) (sym is) (refl, tt));
           open_still = p.says.open_still;
           failed = m;
-          fault = λ x. let z = p.says.fault x in (z.0, failed_still o v u w z.0 went.seen z.1);
+          fault = λ x. let z = p.says.fault x in (z.0, failed_still seen o v u w z.0 went.seen z.1);
           rose = λ x. saw_failure C o v w lane (u.seen ++ t.between) (starts_on v.seen u.seen (u.seen ++ t.between) p.went.seen (t.between, refl)) (map (entry u.number) t.events, t.seen) t.begins p.says.clear (ends.mark ∙ x);
-          found = record { before = found.before; rest = found.rest; since = starts_on v.seen u.seen found.before p.went.seen found.since; seen = found.seen; says = found.says };
+          found = found_since seen o v u w e (EndsIn m lane job.request n) p.went.seen found;
           after = subst (λ (z : Core). IsFree z lane) (sym run.1) (free_ended f lane job.request n.reply none (t.coherent.dies.in_turn lane may.call may.flies));
           coherent = coherent_all t.events f (core_seen C o w) t.coherent t.run;
           run = λ a. run_on p.events t.events c d (core_seen C o w) (p.says.run a) (subst (λ (z : Core). CoreRun z t.events (core_seen C o w)) (still_alone seen o u w P t (alone_u a)) t.run);
@@ -296,8 +277,27 @@ module _ {D : Type 0} (seen : D → DieView) where
       record {
         events = p.events ++ [];
         went = went_on v u w p.events [] p.went went;
-        says = (of_on (Lane lane) p.events [] p.says.of tt, ap calls_of (append-nil p.events) ∙ p.says.open_still);
+        says = (
+          of_on (Lane lane) p.events [] p.says.of tt,
+          ap calls_of (append-nil p.events) ∙ p.says.open_still,
+          λ al encode.
+              let c = core_seen C o v in
+              broken_off encode lane old.request c (core_seen C o u) p.events [] (lit≤ tt) (subst (λ (y : Request). Steps (IsStep encode lane y) c p.events) request (p.says.solo al encode)) (p.says.run al),
+        );
       }
+
+  -- where the turn is worn while the pages are gathered
+  pub fill_worn : (o : S) (v u : V) (lane : ℕ) (old new : Job) (x : Worn) (r : Result Numbered Worn) → IsErr r → IsAtHost (core_seen C o v) lane old → Does v u (SpanSays seen o v u (Lane lane) lane new (Err x)) → Does v u (FinishSays seen o v u lane old.request r)
+  fill_worn o v u lane old new x (Ok n) e b p = absurd (cc)
+  fill_worn o v u lane old new x (Err y) e b p =
+      record {
+        events = p.events;
+        went = p.went;
+        says = (p.says.0, p.says.1, λ al encode. subst (λ (y : Request). IsBrokenOff encode lane y (core_seen C o v) p.events) (sym b.request) (p.says.2 al (inl (b.held, b.host)) encode));
+      }
+
+  pub begun_at_host : (c : Core) (lane : ℕ) (job : Job) → IsBegun c lane job → IsAtHost c lane job
+  begun_at_host c lane job b = record { mark = b.gathering.between.owned.mark; held = b.held; host = b.host; is_on_file = b.is_on_file; request = b.gathering.suits.request }
 
   pub numbered_as : (o q : S) (w : V) (lane : ℕ) (x y : Request) (n : Numbered) → q ≡ o → x ≡ y → IsNumbered q.value.last (calls_of (events_of w.seen)) n.number (record { lane = lane; call = x.call; reply = n.reply }) →
       IsNumbered o.value.last (calls_of (events_of w.seen)) n.number (record { lane = lane; call = y.call; reply = n.reply })

@@ -1,6 +1,7 @@
 pub mod Marks
 pub mod Ending
 pub use Rattle.fill_steps.proofs.Calls
+pub use Rattle.fill_steps.proofs.Callers
 pub use Rattle.fill_steps.proofs.Looping
 pub use Rattle.fill_steps.proofs.Trying
 pub use Rattle.job_turns.proofs.Collects

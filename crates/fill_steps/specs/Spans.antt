@@ -1,13 +1,14 @@
 -- The pages of a call, gathered over a desk. This project's own.
-use Rattle.std.specs.Prelude.{◌≡◌, ℕ, ◌+◌, Bool, true, false, List, [], Result, Ok, Err}
+use Rattle.std.specs.Prelude.{◌≡◌, ℕ, ◌+◌, ◌≤◌, Bool, true, false, List, [], ◌++◌, length, Result, Ok, Err}
 use Rattle.std.specs.declared.snapshot.Snapshot.{Snapshot}
 use Rattle.turn_cell.specs.declared.view.View.{View}
 use Rattle.turn_cell.specs.declared.pass.Worn.{Worn}
 use Rattle.flash_die.specs.Dies.{DieView}
+use Rattle.plain_files.specs.declared.calls.Request.{Request}
 use Rattle.core_state.specs.declared.actor.Actor.{Actor}
 use Rattle.core_state.specs.declared.event.Event.{Event}
 use Rattle.core_state.specs.State.{Page, Core}
-use Rattle.core_state.specs.Happens.{CoreRun}
+use Rattle.core_state.specs.Happens.{CoreRun, after_all}
 use Rattle.core_state.specs.History.{calls_of}
 use Rattle.core_solo.specs.Solo.{Steps, IsStep}
 use Rattle.system_state.specs.Cores.{core_of}
@@ -27,6 +28,15 @@ use Rattle.fill_steps.specs.declared.page.FillStep.TheVariants.{Next, Again, Fai
 abbrev pub IsSameButPages : Job → Job → Type 0
 IsSameButPages old new = new ≡ record old { pages = new.pages }
 
+-- A call was broken off: all its events but the last one at most are its next ones in the run of one thread.
+pub record IsBrokenOff (encode : Core → ℕ → Page) (lane : ℕ) (request : Request) (c : Core) (es : List Event) : Type 0 where
+  pub most : List Event
+  pub rest : List Event
+  pub whole : es ≡ most ++ rest
+  pub short : length rest ≤ 1
+  pub steps : Steps (IsStep encode lane request) c most
+  pub run : CoreRun c most (after_all c most)
+
 module _ {D J : Type 0} (seen : D → DieView) where
   abbrev C : State D J → Core
   C = core_of seen
@@ -44,15 +54,19 @@ module _ {D J : Type 0} (seen : D → DieView) where
 
   -- What a step at place i answers, and its events: the job has the page, if the call gathers it; it was put in at the call's side, and is
   -- to be tried again; a read failed, the die's count of faults rose, and the lane is marked; its die is out, and others are to go on first.
+  -- At Worn at most one event was made.
   abbrev pub StepSays : Snapshot (State D J) → View (Snapshot (State D J)) Event → View (Snapshot (State D J)) Event → Actor → ℕ → ℕ → Job → Result FillStep Worn → List Event → Type 0
-  StepSays o v w actor lane i job (Err x) es = AreOf actor es × (calls_of es ≡ [])
+  StepSays o v w actor lane i job (Err x) es = AreOf actor es × (calls_of es ≡ []) × (length es ≤ 1)
   StepSays o v w actor lane i job (Ok Next) es = Gathers o v w actor lane (λ d. IsGathering d actor lane (i + 1) job) es
   StepSays o v w actor lane i job (Ok Again) es = Gathers o v w actor lane (λ d. IsGathering d actor lane i job) es × IsPutIn seen o v w lane i
   StepSays o v w actor lane i job (Ok Failed) es = Gathers o v w actor lane (λ d. IsBetween true d actor lane) es × ((die : ℕ) × HasFailed seen o v w die)
   StepSays o v w actor lane i job (Ok Waits) es = Gathers o v w actor lane (λ d. IsGathering d actor lane i job) es × (es ≡ []) × ((die : ℕ) × (way (core_seen C o w) lane i ≡ Busy die))
 
   -- What the whole answers, and its events: the job has all pages; or a read failed, the die's count of faults rose, and the lane is marked.
+  -- At Worn the events are the actor's and end no call; where the pass is alone the call was broken off.
   abbrev pub SpanSays : Snapshot (State D J) → View (Snapshot (State D J)) Event → View (Snapshot (State D J)) Event → Actor → ℕ → Job → Result Bool Worn → List Event → Type 0
-  SpanSays o v w actor lane job (Err x) es = AreOf actor es × (calls_of es ≡ [])
+  SpanSays o v w actor lane job (Err x) es =
+      AreOf actor es × (calls_of es ≡ [])
+      × (v.alone ≡ true → IsInTurn (call_at (core_seen C o v) lane) → (encode : Core → ℕ → Page) → IsBrokenOff encode lane (call_at (core_seen C o v) lane).claim.request (core_seen C o v) es)
   SpanSays o v w actor lane job (Ok true) es = Gathers o v w actor lane (λ d. HasSpan d actor lane job) es
   SpanSays o v w actor lane job (Ok false) es = Gathers o v w actor lane (λ d. IsBetween true d actor lane) es × ((die : ℕ) × HasFailed seen o v w die)
