@@ -10,3 +10,4 @@ pub use Rattle.job_turns.specs.Flushing
 pub use Rattle.job_turns.specs.JobTurns
 pub use Rattle.job_turns.specs.Making
 pub use Rattle.job_turns.specs.Words
+pub use Rattle.fill_steps.specs.Cut

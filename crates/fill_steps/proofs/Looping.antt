@@ -54,7 +54,7 @@ calls_on (e ∷ es) fs p q = go (entry_of e) p (λ r. calls_on es fs r q)
 -- a call is broken off after these steps
 pub broken_off : (encode : Core → ℕ → Page) (lane : ℕ) (request : Request) (c d : Core) (es fs : List Event) → length fs ≤ 1 → Steps (IsStep encode lane request) c es → CoreRun c es d → IsBrokenOff encode lane request c (es ++ fs)
 broken_off encode lane request c d es fs short steps run =
-    record { most = es; rest = fs; whole = refl; short = short; steps = steps; run = subst (CoreRun c es) (leads_to es c d run) run }
+    record { most = es; rest = fs; are = refl; short = short; steps = steps; run = subst (CoreRun c es) (leads_to es c d run) run }
 
 turn_kept : (f g : Flight) → IsSameCall f g → IsInTurn f → IsInTurn g
 turn_kept f g s turn =

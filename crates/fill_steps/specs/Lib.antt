@@ -5,3 +5,4 @@ pub use Rattle.event_turns.specs.Words
 pub use Rattle.event_turns.specs.JobTurns
 pub use Rattle.event_turns.specs.Books
 pub use Rattle.event_turns.specs.Flushing
+pub use Rattle.event_turns.specs.Cut

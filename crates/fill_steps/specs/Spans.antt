@@ -18,6 +18,7 @@ use Rattle.system_pages.specs.declared.ways.Way.TheVariants.{Busy}
 use Rattle.call_job.specs.declared.job.Job.{Job}
 use Rattle.desk_turns.specs.Making.{AreOf}
 use Rattle.desk_turns.specs.Passing.{core_seen}
+use Rattle.event_turns.specs.Cut.{IsCutOff}
 use Rattle.event_turns.specs.Flushing.{HasFailed}
 use Rattle.fill_steps.specs.Gathering.{call_at, IsBetween, IsGathering, HasSpan, IsSameCall, IsInTurn}
 use Rattle.fill_steps.specs.Pages.{AreNext, IsPutIn}
@@ -28,14 +29,9 @@ use Rattle.fill_steps.specs.declared.page.FillStep.TheVariants.{Next, Again, Fai
 abbrev pub IsSameButPages : Job → Job → Type 0
 IsSameButPages old new = new ≡ record old { pages = new.pages }
 
--- A call was broken off: all its events but the last one at most are its next ones in the run of one thread.
-pub record IsBrokenOff (encode : Core → ℕ → Page) (lane : ℕ) (request : Request) (c : Core) (es : List Event) : Type 0 where
-  pub most : List Event
-  pub rest : List Event
-  pub whole : es ≡ most ++ rest
-  pub short : length rest ≤ 1
-  pub steps : Steps (IsStep encode lane request) c most
-  pub run : CoreRun c most (after_all c most)
+-- a call was broken off: all its events but the last one at most are its next ones in the run of one thread
+abbrev pub IsBrokenOff : (Core → ℕ → Page) → ℕ → Request → Core → List Event → Type 0
+IsBrokenOff encode lane request c es = IsCutOff encode c lane request es
 
 module _ {D J : Type 0} (seen : D → DieView) where
   abbrev C : State D J → Core

@@ -32,7 +32,8 @@ use Rattle.call_finishes.specs.Gathering.{call_at}
 use Rattle.call_finishes.specs.Making.{IsFree}
 use Rattle.call_finishes.specs.Words.{IsNumbered}
 use Rattle.call_finishes.specs.Finishing.{EndsIn}
-use Rattle.call_finishes.proofs.Ending.{free_ended, starts_on}
+use Rattle.call_finishes.proofs.Ending.{free_ended}
+use Rattle.call_finishes.proofs.Callers.{starts_on}
 use Rattle.call_finishes.proofs.Trying.{still_alone}
 use Rattle.call_finishes.proofs.Collects.{none_waits, away_waits, claim_waits}
 use Rattle.lambda_finishes.specs.Waiting.{IsOut, IsCollected, AskedSays, CollectedSays}

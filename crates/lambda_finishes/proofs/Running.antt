@@ -58,6 +58,13 @@ at_host c lane old mid new b same run =
       request = run.request ∙ (same_request old mid same ∙ b.gathering.suits.request);
     }
 
+pub begun_host : (c : Core) (lane : ℕ) (job : Job) → IsBegunAt Host c lane job → IsAtHost c lane job
+begun_host c lane job b =
+    record { mark = b.gathering.between.owned.mark; held = b.held; host = b.side_is; is_on_file = lambda_data (call_at c lane).claim.request.call b.runs; request = b.gathering.suits.request }
+
+pub run_request : (old mid new : Job) → IsSameButPages old mid → SameButRun mid new → new.request ≡ old.request
+run_request old mid new same run = run.request ∙ same_request old mid same
+
 module _ {D : Type 0} (seen : D → DieView) where
   abbrev C : State D Job → Core
   C = core_of seen

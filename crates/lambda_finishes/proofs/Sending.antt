@@ -1,11 +1,12 @@
 -- A call goes into the queue, and ends once it is reported.
-use Rattle.std.proofs.Common.{◌≡◌, ℕ, ◌<◌, Bool, true, false, List, [], ◌∷◌, ◌++◌, Option, Some, None, refl, sym, ap, ◌∙◌, subst, ⊎_elim, append-nil, arith}
+use Rattle.std.proofs.Common.{◌≡◌, ℕ, ◌<◌, Bool, true, false, List, [], ◌∷◌, ◌++◌, Option, Some, None, refl, sym, ap, ◌∙◌, subst, length, ◌≤◌, lit≤, ⊎_elim, append-nil, arith}
 use Rattle.std.specs.Prelude.{◌≢◌, if◌then◌else◌, Result, Ok, Err, IfErr}
 use Rattle.std.specs.Result.{IsErr}
 use Rattle.std.specs.declared.snapshot.Snapshot.{Snapshot}
 use Rattle.index_lists.proofs.Puts.{put-same}
 use Rattle.turn_cell.specs.declared.view.View.{View}
 use Rattle.turn_cell.specs.declared.pass.Worn.{Worn}
+use Rattle.turn_cell.specs.Events.{events_of}
 use Rattle.turn_cell.specs.History.{entry}
 use Rattle.flash_die.specs.Dies.{DieView}
 use Rattle.sbpf_insn.specs.Machine.{Outcome}
@@ -40,9 +41,11 @@ use Rattle.call_job.specs.declared.job.Job.{Job}
 use Rattle.call_job.proofs.Kept.{suits_kept, suits_in_phase}
 use Rattle.call_finishes.specs.Gathering.{call_at, told_at}
 use Rattle.call_finishes.specs.JobTurns.{SuitsInSpan}
+use Rattle.call_finishes.specs.Words.{IsNumbered}
 use Rattle.call_finishes.specs.Finishing.{EndsIn}
 use Rattle.call_finishes.proofs.Marks.{saw_failure}
-use Rattle.call_finishes.proofs.Ending.{starts_on}
+use Rattle.call_finishes.proofs.Callers.{starts_on}
+use Rattle.call_finishes.proofs.Looping.{broken_off}
 use Rattle.call_finishes.proofs.Trying.{run_on, still_alone}
 use Rattle.call_finishes.proofs.FlushSteps.{shape_at, leaves}
 use Rattle.call_finishes.proofs.Keeping.{again, at_flight, own_flying}
@@ -154,7 +157,7 @@ module _ {D : Type 0} (seen : D → DieView) where
 
   -- ---- and ends
 
-  ended : (o : S) (v u w : V) (lane : ℕ) (request : Request) (n : Numbered) (es fs : List Event) → Went v u es → Sent o v u lane request es → IsCollected seen o u w lane request n fs → HasEnded seen o v w lane request n (es ++ fs)
+  pub ended : (o : S) (v u w : V) (lane : ℕ) (request : Request) (n : Numbered) (es fs : List Event) → Went v u es → Sent o v u lane request es → IsCollected seen o u w lane request n fs → HasEnded seen o v w lane request n (es ++ fs)
   ended o v u w lane request n es fs went s k =
       let c = core_seen C o v in
       let x = core_seen C o u in
@@ -197,10 +200,33 @@ module _ {D : Type 0} (seen : D → DieView) where
       record {
         events = p.events ++ k.events;
         went = went_on v u w p.events k.events p.went k.went;
-        says = (subst (AreOf (Lane lane)) (sym all) p.says.0, ap calls_of all ∙ p.says.1.open_still);
+        says = (
+          subst (AreOf (Lane lane)) (sym all) p.says.0,
+          ap calls_of all ∙ p.says.1.open_still,
+          λ al encode. broken_off encode lane request (core_seen C o v) (core_seen C o u) p.events k.events (subst (λ (es : List Event). length es ≤ 1) (sym k.says) (lit≤ tt)) (p.says.1.solo al encode) (p.says.1.run al),
+        );
       }
+
+  pub out_after : (o q : S) (v u : V) (lane : ℕ) (request : Request) → q ≡ o → Does v u (λ es. AreOf (Lane lane) es × Sent o v u lane request es) → IsOut (core_seen C q u) lane (call_at (core_seen C q u) lane).claim.request
+  out_after o q v u lane request same p =
+      subst (λ (z : S). IsOut (core_seen C z u) lane (call_at (core_seen C z u) lane).claim.request) (sym same) (record { away = p.says.1.out.away; none = p.says.1.out.none; request_is = refl })
+
+  asks_after : (o q : S) (v u : V) (lane : ℕ) (request : Request) → q ≡ o → Does v u (λ es. AreOf (Lane lane) es × Sent o v u lane request es) → (call_at (core_seen C q u) lane).claim.request ≡ request
+  asks_after o q v u lane request same p = subst (λ (z : S). (call_at (core_seen C z u) lane).claim.request ≡ request) (sym same) p.says.1.out.request_is
+
+  pub drive_on : (o q : S) (v u w : V) (lane : ℕ) (request : Request) (r : Result Numbered Worn) → q ≡ o → Does v u (λ es. AreOf (Lane lane) es × Sent o v u lane request es) → Does u w (CollectedSays seen q u w lane (call_at (core_seen C q u) lane).claim.request r) →
+      Does v w (LambdaSays seen (AreOf (Lane lane)) o v w lane request r)
+  drive_on o q v u w lane request r same p k =
+      drive_says o q v u w lane request r same p (subst (λ (y : Request). Does u w (CollectedSays seen q u w lane y r)) (asks_after o q v u lane request same p) k)
+
+  pub number_after : (o q : S) (v u w : V) (lane : ℕ) (request : Request) (n : Numbered) → q ≡ o → Does v u (λ es. AreOf (Lane lane) es × Sent o v u lane request es) →
+      IsNumbered q.value.last (calls_of (events_of w.seen)) n.number (record { lane = lane; call = (call_at (core_seen C q u) lane).claim.request.call; reply = n.reply }) →
+      IsNumbered o.value.last (calls_of (events_of w.seen)) n.number (record { lane = lane; call = request.call; reply = n.reply })
+  number_after o q v u w lane request n same p k =
+      subst (λ (z : S). IsNumbered z.value.last (calls_of (events_of w.seen)) n.number (record { lane = lane; call = request.call; reply = n.reply })) same
+      (subst (λ (y : Request). IsNumbered q.value.last (calls_of (events_of w.seen)) n.number (record { lane = lane; call = y.call; reply = n.reply })) (asks_after o q v u lane request same p) k)
 
   -- it did not come into the queue
   pub sent_worn : (o : S) (v w : V) (lane : ℕ) (request : Request) (r : Result Numbered Worn) → IsErr r → Went v w [] → Does v w (LambdaSays seen (AreOf (Lane lane)) o v w lane request r)
   sent_worn o v w lane request (Ok n) e went = absurd (cc)
-  sent_worn o v w lane request (Err x) e went = record { events = []; went = went; says = (tt, refl) }
+  sent_worn o v w lane request (Err x) e went = record { events = []; went = went; says = (tt, refl, λ al encode. broken_off encode lane request (core_seen C o v) (core_seen C o v) [] [] (lit≤ tt) tt refl) }
