@@ -15,7 +15,7 @@ use Rattle.core_state.specs.declared.event.Event.{Event}
 use Rattle.core_state.specs.State.{Page, Claim, Reach, Running, Flight, Core}
 use Rattle.core_state.specs.Contents.{is_missing, die_of}
 use Rattle.core_state.specs.DieEvents.{is_home}
-use Rattle.core_state.specs.Happens.{HoldsNone, CoreRun, actor_of, after_all}
+use Rattle.core_state.specs.Happens.{HoldsNone, CoreRun, actor_of}
 use Rattle.core_state.specs.History.{entry_of, and_then, calls_of}
 use Rattle.core_state.proofs.Runs.{leads_to}
 use Rattle.core_solo.specs.Solo.{Steps, IsStep}
@@ -32,10 +32,11 @@ use Rattle.desk_turns.specs.Making.{AreOf}
 use Rattle.desk_turns.specs.Passing.{core_seen, FoundAt, Went, Does}
 use Rattle.desk_turns.proofs.Went.{of_on, went_on, went_none}
 use Rattle.event_turns.proofs.FlushSteps.{failed_on as earlier}
+use Rattle.event_turns.specs.Cut.{IsCutOff}
 use Rattle.event_turns.specs.PageTurns.{block_at}
 use Rattle.fill_steps.specs.Gathering.{call_at, IsBetween, IsGathering, HasSpan, IsSameCall, IsInTurn, IsNextGather, is_away}
 use Rattle.fill_steps.specs.Pages.{AreNext}
-use Rattle.fill_steps.specs.Spans.{IsSameButPages, IsBrokenOff, Gathers, StepSays, SpanSays}
+use Rattle.fill_steps.specs.Spans.{IsSameButPages, Gathers, StepSays, SpanSays}
 use Rattle.fill_steps.specs.declared.page.FillStep.{FillStep}
 use Rattle.fill_steps.specs.declared.page.FillStep.TheVariants.{Next, Again, Failed, Waits}
 use Rattle.fill_steps.proofs.Calls.{same_call_on}
@@ -51,9 +52,9 @@ calls_on (e ∷ es) fs p q = go (entry_of e) p (λ r. calls_on es fs r q)
     go None p k = k p
     go (Some x) p k = absurd (cc)
 
--- a call is broken off after these steps
-pub broken_off : (encode : Core → ℕ → Page) (lane : ℕ) (request : Request) (c d : Core) (es fs : List Event) → length fs ≤ 1 → Steps (IsStep encode lane request) c es → CoreRun c es d → IsBrokenOff encode lane request c (es ++ fs)
-broken_off encode lane request c d es fs short steps run =
+-- a call is cut short after these steps
+pub cut_off : (encode : Core → ℕ → Page) (c d : Core) (lane : ℕ) (request : Request) (es fs : List Event) → length fs ≤ 1 → Steps (IsStep encode lane request) c es → CoreRun c es d → IsCutOff encode c lane request (es ++ fs)
+cut_off encode c d lane request es fs short steps run =
     record { most = es; rest = fs; are = refl; short = short; steps = steps; run = subst (CoreRun c es) (leads_to es c d run) run }
 
 turn_kept : (f g : Flight) → IsSameCall f g → IsInTurn f → IsInTurn g
@@ -218,7 +219,7 @@ module _ {D J : Type 0} (seen : D → DieView) where
         says = (
           of_on a p.events n.events p.says.of n.says.0,
           calls_on p.events n.events p.says.open_still n.says.1,
-          λ al turn encode. broken_off encode lane (call_at (core_seen C o v) lane).claim.request (core_seen C o v) (core_seen C o u) p.events n.events n.says.2 (p.says.solo al turn encode) (p.says.run al),
+          λ al turn encode. cut_off encode (core_seen C o v) (core_seen C o u) lane (call_at (core_seen C o v) lane).claim.request p.events n.events n.says.2 (p.says.solo al turn encode) (p.says.run al),
         );
       }
 

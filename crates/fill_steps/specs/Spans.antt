@@ -1,14 +1,13 @@
 -- The pages of a call, gathered over a desk. This project's own.
-use Rattle.std.specs.Prelude.{◌≡◌, ℕ, ◌+◌, ◌≤◌, Bool, true, false, List, [], ◌++◌, length, Result, Ok, Err}
+use Rattle.std.specs.Prelude.{◌≡◌, ℕ, ◌+◌, ◌≤◌, Bool, true, false, List, [], length, Result, Ok, Err}
 use Rattle.std.specs.declared.snapshot.Snapshot.{Snapshot}
 use Rattle.turn_cell.specs.declared.view.View.{View}
 use Rattle.turn_cell.specs.declared.pass.Worn.{Worn}
 use Rattle.flash_die.specs.Dies.{DieView}
-use Rattle.plain_files.specs.declared.calls.Request.{Request}
 use Rattle.core_state.specs.declared.actor.Actor.{Actor}
 use Rattle.core_state.specs.declared.event.Event.{Event}
 use Rattle.core_state.specs.State.{Page, Core}
-use Rattle.core_state.specs.Happens.{CoreRun, after_all}
+use Rattle.core_state.specs.Happens.{CoreRun}
 use Rattle.core_state.specs.History.{calls_of}
 use Rattle.core_solo.specs.Solo.{Steps, IsStep}
 use Rattle.system_state.specs.Cores.{core_of}
@@ -28,10 +27,6 @@ use Rattle.fill_steps.specs.declared.page.FillStep.TheVariants.{Next, Again, Fai
 -- but for its pages the job is as it was
 abbrev pub IsSameButPages : Job → Job → Type 0
 IsSameButPages old new = new ≡ record old { pages = new.pages }
-
--- a call was broken off: all its events but the last one at most are its next ones in the run of one thread
-abbrev pub IsBrokenOff : (Core → ℕ → Page) → ℕ → Request → Core → List Event → Type 0
-IsBrokenOff encode lane request c es = IsCutOff encode c lane request es
 
 module _ {D J : Type 0} (seen : D → DieView) where
   abbrev C : State D J → Core
@@ -59,10 +54,10 @@ module _ {D J : Type 0} (seen : D → DieView) where
   StepSays o v w actor lane i job (Ok Waits) es = Gathers o v w actor lane (λ d. IsGathering d actor lane i job) es × (es ≡ []) × ((die : ℕ) × (way (core_seen C o w) lane i ≡ Busy die))
 
   -- What the whole answers, and its events: the job has all pages; or a read failed, the die's count of faults rose, and the lane is marked.
-  -- At Worn the events are the actor's and end no call; where the pass is alone the call was broken off.
+  -- At Worn the events are the actor's and end no call; where the pass is alone they are those of the call in the run of one thread, cut short.
   abbrev pub SpanSays : Snapshot (State D J) → View (Snapshot (State D J)) Event → View (Snapshot (State D J)) Event → Actor → ℕ → Job → Result Bool Worn → List Event → Type 0
   SpanSays o v w actor lane job (Err x) es =
       AreOf actor es × (calls_of es ≡ [])
-      × (v.alone ≡ true → IsInTurn (call_at (core_seen C o v) lane) → (encode : Core → ℕ → Page) → IsBrokenOff encode lane (call_at (core_seen C o v) lane).claim.request (core_seen C o v) es)
+      × (v.alone ≡ true → IsInTurn (call_at (core_seen C o v) lane) → (encode : Core → ℕ → Page) → IsCutOff encode (core_seen C o v) lane (call_at (core_seen C o v) lane).claim.request es)
   SpanSays o v w actor lane job (Ok true) es = Gathers o v w actor lane (λ d. HasSpan d actor lane job) es
   SpanSays o v w actor lane job (Ok false) es = Gathers o v w actor lane (λ d. IsBetween true d actor lane) es × ((die : ℕ) × HasFailed seen o v w die)
