@@ -54,11 +54,12 @@ use Rattle.job_turns.specs.Words.{IsNumbered}
 use Rattle.job_turns.proofs.FlushSteps.{shape_at}
 use Rattle.job_turns.proofs.Keeping.{at_flight, own_flying}
 use Rattle.fill_steps.specs.Gathering.{call_at, told_at, IsBetween}
-use Rattle.fill_steps.specs.Spans.{IsSameButPages, IsBrokenOff, Gathers, SpanSays}
+use Rattle.fill_steps.specs.Cut.{IsCutOff}
+use Rattle.fill_steps.specs.Spans.{IsSameButPages, Gathers, SpanSays}
 use Rattle.fill_steps.proofs.Calls.{owned_kept}
 use Rattle.fill_steps.proofs.Callers.{none_left, starts_on, failed_still, found_since}
 use Rattle.fill_steps.proofs.Trying.{run_on, still_alone}
-use Rattle.fill_steps.proofs.Looping.{broken_off, home_again}
+use Rattle.fill_steps.proofs.Looping.{cut_off, home_again}
 use Rattle.call_finishes.specs.Finishing.{IsBegun, EndsIn, FinishSays}
 use Rattle.call_finishes.proofs.Marks.{saw_failure}
 
@@ -282,7 +283,7 @@ module _ {D : Type 0} (seen : D → DieView) where
           ap calls_of (append-nil p.events) ∙ p.says.open_still,
           λ al encode.
               let c = core_seen C o v in
-              broken_off encode lane old.request c (core_seen C o u) p.events [] (lit≤ tt) (subst (λ (y : Request). Steps (IsStep encode lane y) c p.events) request (p.says.solo al encode)) (p.says.run al),
+              cut_off encode c (core_seen C o u) lane old.request p.events [] (lit≤ tt) (subst (λ (y : Request). Steps (IsStep encode lane y) c p.events) request (p.says.solo al encode)) (p.says.run al),
         );
       }
 
@@ -293,7 +294,7 @@ module _ {D : Type 0} (seen : D → DieView) where
       record {
         events = p.events;
         went = p.went;
-        says = (p.says.0, p.says.1, λ al encode. subst (λ (y : Request). IsBrokenOff encode lane y (core_seen C o v) p.events) (sym b.request) (p.says.2 al (inl (b.held, b.host)) encode));
+        says = (p.says.0, p.says.1, λ al encode. subst (λ (y : Request). IsCutOff encode (core_seen C o v) lane y p.events) (sym b.request) (p.says.2 al (inl (b.held, b.host)) encode));
       }
 
   pub begun_at_host : (c : Core) (lane : ℕ) (job : Job) → IsBegun c lane job → IsAtHost c lane job

@@ -45,7 +45,7 @@ use Rattle.call_finishes.specs.Words.{IsNumbered}
 use Rattle.call_finishes.specs.Finishing.{EndsIn}
 use Rattle.call_finishes.proofs.Marks.{saw_failure}
 use Rattle.call_finishes.proofs.Callers.{starts_on}
-use Rattle.call_finishes.proofs.Looping.{broken_off}
+use Rattle.call_finishes.proofs.Looping.{cut_off}
 use Rattle.call_finishes.proofs.Trying.{run_on, still_alone}
 use Rattle.call_finishes.proofs.FlushSteps.{shape_at, leaves}
 use Rattle.call_finishes.proofs.Keeping.{again, at_flight, own_flying}
@@ -203,7 +203,7 @@ module _ {D : Type 0} (seen : D → DieView) where
         says = (
           subst (AreOf (Lane lane)) (sym all) p.says.0,
           ap calls_of all ∙ p.says.1.open_still,
-          λ al encode. broken_off encode lane request (core_seen C o v) (core_seen C o u) p.events k.events (subst (λ (es : List Event). length es ≤ 1) (sym k.says) (lit≤ tt)) (p.says.1.solo al encode) (p.says.1.run al),
+          λ al encode. cut_off encode (core_seen C o v) (core_seen C o u) lane request p.events k.events (subst (λ (es : List Event). length es ≤ 1) (sym k.says) (lit≤ tt)) (p.says.1.solo al encode) (p.says.1.run al),
         );
       }
 
@@ -229,4 +229,4 @@ module _ {D : Type 0} (seen : D → DieView) where
   -- it did not come into the queue
   pub sent_worn : (o : S) (v w : V) (lane : ℕ) (request : Request) (r : Result Numbered Worn) → IsErr r → Went v w [] → Does v w (LambdaSays seen (AreOf (Lane lane)) o v w lane request r)
   sent_worn o v w lane request (Ok n) e went = absurd (cc)
-  sent_worn o v w lane request (Err x) e went = record { events = []; went = went; says = (tt, refl, λ al encode. broken_off encode lane request (core_seen C o v) (core_seen C o v) [] [] (lit≤ tt) tt refl) }
+  sent_worn o v w lane request (Err x) e went = record { events = []; went = went; says = (tt, refl, λ al encode. cut_off encode (core_seen C o v) (core_seen C o v) lane request [] [] (lit≤ tt) tt refl) }

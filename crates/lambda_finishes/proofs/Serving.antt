@@ -34,10 +34,10 @@ use Rattle.desk_turns.specs.Passing.{ActsFor, core_after, core_seen, Turn, Went,
 use Rattle.desk_turns.proofs.Went.{went_on, went_turn}
 use Rattle.call_job.specs.declared.job.Job.{Job}
 use Rattle.call_finishes.specs.Gathering.{call_at}
-use Rattle.call_finishes.specs.Spans.{IsBrokenOff}
+use Rattle.call_finishes.specs.Cut.{IsCutOff}
 use Rattle.call_finishes.specs.Words.{IsNumbered}
 use Rattle.call_finishes.proofs.FlushSteps.{leaves}
-use Rattle.call_finishes.proofs.Looping.{broken_off, calls_on, home_again}
+use Rattle.call_finishes.proofs.Looping.{cut_off, calls_on, home_again}
 use Rattle.call_finishes.proofs.Trying.{run_on, still_alone}
 use Rattle.drive_worker.specs.Serving.{IsFreeWorker, HasServed, FoundNone, ServeSays}
 use Rattle.drive_worker.specs.declared.serve.Served.{Served}
@@ -63,9 +63,9 @@ of_both : (lane : ℕ) (es fs : List Event) → AreOfCall lane es → AreOfCall 
 of_both lane [] fs p q = q
 of_both lane (e ∷ es) fs p q = (p.0, of_both lane es fs p.1 q)
 
--- steps, and then a call that was broken off
-broken_on : (encode : Core → ℕ → Page) (lane : ℕ) (request : Request) (c d : Core) (es fs : List Event) → Steps (IsStep encode lane request) c es → CoreRun c es d → IsBrokenOff encode lane request d fs → IsBrokenOff encode lane request c (es ++ fs)
-broken_on encode lane request c d es fs steps run b =
+-- steps, and then a call that was cut short
+cut_on : (encode : Core → ℕ → Page) (lane : ℕ) (request : Request) (c d : Core) (es fs : List Event) → Steps (IsStep encode lane request) c es → CoreRun c es d → IsCutOff encode d lane request fs → IsCutOff encode c lane request (es ++ fs)
+cut_on encode lane request c d es fs steps run b =
     let to : d ≡ after_all c es = leads_to es c d run in
     let all = run_on es b.most c d (after_all d b.most) run b.run in
     record {
@@ -241,8 +241,8 @@ module _ {D : Type 0} (seen : D → DieView) where
           of_both lane p.events k.events (of_lane lane p.events p.says.0) (of_worker lane k.events at.0),
           calls_on p.events k.events s.open_still at.1,
           λ a encode.
-              broken_on encode lane request (core_seen C o v) (core_seen C o u) p.events k.events (s.solo a encode) (s.run a)
-              (subst (λ (r : Request). IsBrokenOff encode lane r (core_seen C o u) k.events) s.out.request_is (at.2 alu refl lane (at_front (core_seen C o u) lane request w) encode)),
+              cut_on encode lane request (core_seen C o v) (core_seen C o u) p.events k.events (s.solo a encode) (s.run a)
+              (subst (λ (r : Request). IsCutOff encode (core_seen C o u) lane r k.events) s.out.request_is (at.2 alu refl lane (at_front (core_seen C o u) lane request w) encode)),
         );
       }
 
@@ -272,7 +272,7 @@ module _ {D : Type 0} (seen : D → DieView) where
         says = (
           of_both lane p.events k.events p.says.of (subst (AreOfCall lane) (sym k.says) tt),
           calls_on p.events k.events p.says.sent.open_still (ap calls_of k.says),
-          λ al encode. broken_off encode lane request (core_seen C o v) (core_seen C o u) p.events k.events (subst (λ (es : List Event). length es ≤ 1) (sym k.says) (lit≤ tt)) (p.says.sent.solo al encode) (p.says.sent.run al),
+          λ al encode. cut_off encode (core_seen C o v) (core_seen C o u) lane request p.events k.events (subst (λ (es : List Event). length es ≤ 1) (sym k.says) (lit≤ tt)) (p.says.sent.solo al encode) (p.says.sent.run al),
         );
       }
 

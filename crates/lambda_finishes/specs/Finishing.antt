@@ -22,7 +22,7 @@ use Rattle.desk_turns.specs.Passing.{core_seen, FoundAt}
 use Rattle.call_job.specs.declared.job.Job.{Job}
 use Rattle.call_finishes.specs.Making.{IsFree}
 use Rattle.call_finishes.specs.Gathering.{call_at, IsGathering}
-use Rattle.call_finishes.specs.Spans.{IsBrokenOff}
+use Rattle.call_finishes.specs.Cut.{IsCutOff}
 use Rattle.call_finishes.specs.Finishing.{EndsIn, SawFailure}
 
 -- The lane's call is a `readl` or `writel` that is held at this side, with no page gathered and no mark, and this is its job, whose function
@@ -61,8 +61,8 @@ module _ {D J : Type 0} (seen : D → DieView) where
     pub run : v.alone ≡ true → CoreRun (core_seen C o v) es (core_seen C o w)
     pub solo : v.alone ≡ true → (encode : Core → ℕ → Page) → SoloCall encode (core_seen C o v) lane request es
 
-  -- The pass made these events and the call has ended, or at Worn it hasn't; where the pass is alone it was broken off then.
+  -- The pass made these events and the call has ended, or at Worn it hasn't; where the pass is alone it was cut short then.
   abbrev pub LambdaSays : (List Event → Type 0) → Snapshot (State D J) → View (Snapshot (State D J)) Event → View (Snapshot (State D J)) Event → ℕ → Request → Result Numbered Worn → List Event → Type 0
   LambdaSays AreMine o v w lane request (Ok n) es = AreMine es × HasEnded o v w lane request n es
   LambdaSays AreMine o v w lane request (Err x) es =
-      AreMine es × (calls_of es ≡ []) × (v.alone ≡ true → (encode : Core → ℕ → Page) → IsBrokenOff encode lane request (core_seen C o v) es)
+      AreMine es × (calls_of es ≡ []) × (v.alone ≡ true → (encode : Core → ℕ → Page) → IsCutOff encode (core_seen C o v) lane request es)
