@@ -124,3 +124,9 @@ module _ {S : Type 0} (core : S → Core) where
       let a = ap failures events ∙ failures_on (events_of v.seen) (events_of rest) in
       let b : failures (events_of w.seen) ≡ failures (events_of before) + failures (events_of until.0) = ap (λ h. failures (events_of h)) until.1 ∙ events_on before until.0 in
       omega arith
+
+-- and it has been since an earlier view
+pub saw_since : {S : Type 0} (v u w : View (Snapshot S) Event) → StartsWith u.seen v.seen → SawFailure u w → SawFailure v w
+saw_since v u w since saw =
+    let a : failures (events_of u.seen) ≡ failures (events_of v.seen) + failures (events_of since.0) = ap (λ h. failures (events_of h)) since.1 ∙ events_on v.seen since.0 in
+    omega arith

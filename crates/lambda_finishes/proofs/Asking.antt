@@ -178,3 +178,19 @@ module _ {D : Type 0} (seen : D → DieView) where
       IsNumbered o.value.last (calls_of (events_of w.seen)) m.number (record { lane = lane; call = (Asks o v lane).call; reply = m.reply })
   number_asked o v w lane n m job is asks k =
       subst (λ (z : Numbered × Request). IsNumbered o.value.last (calls_of (events_of w.seen)) z.0.number (record { lane = lane; call = z.1.call; reply = z.0.reply })) (λ i. (is i, asks i)) k
+
+  -- ---- it is known to be reported
+
+  pub ask_done : (o : S) (v w : V) (lane : ℕ) (request : Request) (x : Option Numbered) (n : Numbered) → x ≡ Some n → Does v w (AskedSays seen o v w lane request (Ok x)) → Does v w (CollectedSays seen o v w lane request (Ok n))
+  ask_done o v w lane request x n is p =
+      record { events = p.events; went = p.went; says = subst (λ (y : Option Numbered). AskedSays seen o v w lane request (Ok y) p.events) is p.says }
+
+  pub ask_worn : (o : S) (v w : V) (lane : ℕ) (request : Request) (x : Worn) (r : Result Numbered Worn) → IsErr r → Does v w (AskedSays seen o v w lane request (Err x)) → Does v w (CollectedSays seen o v w lane request r)
+  ask_worn o v w lane request x (Ok n) e p = absurd (cc)
+  ask_worn o v w lane request x (Err y) e p = record { events = p.events; went = p.went; says = p.says }
+
+  pub never_unfinished : (o : S) (v w : V) (lane : ℕ) (request : Request) (x : Option Numbered) → x ≡ None → v.alone ≡ true → is_reported (call_at (core_seen C o v) lane).phase ≡ true → Does v w (AskedSays seen o v w lane request (Ok x)) → ⊥
+  never_unfinished o v w lane request x is al reported p =
+      let k = subst (λ (y : Option Numbered). AskedSays seen o v w lane request (Ok y) p.events) is p.says in
+      let a : is_reported (call_at (core_seen C o v) lane).phase ≡ false = subst (λ (z : Core). is_reported (call_at z lane).phase ≡ false) (k.3 al) k.2 in
+      absurd (cc)

@@ -51,7 +51,7 @@ AllHome c = (die : ℕ) → (c.dies die).out ≡ None
 
 -- ---- events
 
-of_lane : (lane : ℕ) (es : List Event) → AreOf (Lane lane) es → AreOfCall lane es
+pub of_lane : (lane : ℕ) (es : List Event) → AreOf (Lane lane) es → AreOfCall lane es
 of_lane lane [] p = tt
 of_lane lane (e ∷ es) p = (inl p.0, of_lane lane es p.1)
 
@@ -59,12 +59,12 @@ of_worker : (lane : ℕ) (es : List Event) → AreOf (Worker 0) es → AreOfCall
 of_worker lane [] p = tt
 of_worker lane (e ∷ es) p = (inr p.0, of_worker lane es p.1)
 
-of_both : (lane : ℕ) (es fs : List Event) → AreOfCall lane es → AreOfCall lane fs → AreOfCall lane (es ++ fs)
+pub of_both : (lane : ℕ) (es fs : List Event) → AreOfCall lane es → AreOfCall lane fs → AreOfCall lane (es ++ fs)
 of_both lane [] fs p q = q
 of_both lane (e ∷ es) fs p q = (p.0, of_both lane es fs p.1 q)
 
 -- steps, and then a call that was cut short
-cut_on : (encode : Core → ℕ → Page) (lane : ℕ) (request : Request) (c d : Core) (es fs : List Event) → Steps (IsStep encode lane request) c es → CoreRun c es d → IsCutOff encode d lane request fs → IsCutOff encode c lane request (es ++ fs)
+pub cut_on : (encode : Core → ℕ → Page) (lane : ℕ) (request : Request) (c d : Core) (es fs : List Event) → Steps (IsStep encode lane request) c es → CoreRun c es d → IsCutOff encode d lane request fs → IsCutOff encode c lane request (es ++ fs)
 cut_on encode lane request c d es fs steps run b =
     let to : d ≡ after_all c es = leads_to es c d run in
     let all = run_on es b.most c d (after_all d b.most) run b.run in
@@ -245,6 +245,18 @@ module _ {D : Type 0} (seen : D → DieView) where
               (subst (λ (r : Request). IsCutOff encode (core_seen C o u) lane r k.events) s.out.request_is (at.2 alu refl lane (at_front (core_seen C o u) lane request w) encode)),
         );
       }
+
+  -- in the opening as the desk has it then
+  pub free_there : (o q : S) (u : V) (lane : ℕ) (request : Request) → q ≡ o → IsInQueue (core_seen C o u) lane request → IsFreeWorker (core_seen C q u) 0
+  free_there o q u lane request same w = subst (λ (z : S). IsFreeWorker (core_seen C z u) 0) (sym same) (free_worker (core_seen C o u) lane request w)
+
+  pub home_there : (o q : S) (u : V) (lane : ℕ) (request : Request) → q ≡ o → IsInQueue (core_seen C o u) lane request → AllHome (core_seen C q u)
+  home_there o q u lane request same w = subst (λ (z : S). AllHome (core_seen C z u)) (sym same) w.home
+
+  -- it did not come into the queue
+  pub submit_worn : (o : S) (v w : V) (lane : ℕ) (request : Request) (r : Result Numbered Worn) → IsErr r → Went v w [] → Does v w (LambdaSays seen (AreOfCall lane) o v w lane request r)
+  submit_worn o v w lane request (Ok n) e went = absurd (cc)
+  submit_worn o v w lane request (Err x) e went = record { events = []; went = went; says = (tt, refl, λ al encode. cut_off encode (core_seen C o v) (core_seen C o v) lane request [] [] (lit≤ tt) tt refl) }
 
   -- ---- and ends
 
