@@ -110,6 +110,13 @@ module _ {D : Type 0} (seen : D → DieView) where
         );
       }
 
+  -- what it answered
+  pub asked_ok : (o : S) (v w : V) (lane : ℕ) (x : Result (Numbered × Job) NotYet) (y : Numbered × Job) → x ≡ Ok y → IsOut (core_seen C o v) lane (Asks o v lane) → Turn C o v w (CollectSays (core_seen C o v) lane x) → Does v w (AskedSays seen o v w lane (Asks o v lane) (Ok (Some y.0)))
+  asked_ok o v w lane x y is out t = asked_some o v w lane y.0 y.1 out (subst (λ (z : Result (Numbered × Job) NotYet). Turn C o v w (CollectSays (core_seen C o v) lane z)) is t)
+
+  pub asked_not : (o : S) (v w : V) (lane : ℕ) (x : Result (Numbered × Job) NotYet) (y : NotYet) → x ≡ Err y → IsOut (core_seen C o v) lane (Asks o v lane) → Turn C o v w (CollectSays (core_seen C o v) lane x) → Does v w (AskedSays seen o v w lane (Asks o v lane) (Ok None))
+  asked_not o v w lane x y is out t = asked_none o v w lane y out (subst (λ (z : Result (Numbered × Job) NotYet). Turn C o v w (CollectSays (core_seen C o v) lane z)) is t)
+
   -- where the turn is worn
   pub asked_worn : (o : S) (v w : V) (lane : ℕ) (request : Request) (r : Result (Option Numbered) Worn) → IsErr r → Went v w [] → Does v w (AskedSays seen o v w lane request r)
   asked_worn o v w lane request (Ok x) e went = absurd (cc)
