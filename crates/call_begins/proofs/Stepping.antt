@@ -230,7 +230,7 @@ module _ {D J : Type 0} (seen : D → DieView) where
   room_run o v u w lane request picked why es fs t is back run a =
       subst (λ (c : Core). CoreRun c es (core_seen C o w)) (back a)
       (subst (λ (xs : List Event). CoreRun (core_seen C o u) xs (core_seen C o w)) (sym is)
-      (run (alone_after v u t.events (went_turn C o v u (BeginSays lane request picked (Err why)) t) a)))
+      (run (alone_after seen v u t.events (went_turn C o v u (BeginSays lane request picked (Err why)) t) a)))
 
   -- what was done for room after the try
   roomed : (o : Snapshot (State D J)) (v u w : View (Snapshot (State D J)) Event) (lane : ℕ) (request : Request) (picked : Side) (why : NotYet) (step : BeginStep) (es fs : List Event) → ActsFor C o v (Lane lane) → IsFree (core_seen C o v) lane → lacks_room why ≡ true → (t : Tried o v u lane request picked why) → (u.seen ≡ v.seen ++ t.between) → es ≡ fs → Went u w fs →
@@ -248,7 +248,7 @@ module _ {D J : Type 0} (seen : D → DieView) where
         are = is ∙ p.are;
         whole = p.whole;
         found = record { before = p.found.before; rest = p.found.rest; since = starts_on v.seen u.seen p.found.before (t.between, seen_is) p.found.since; seen = p.found.seen; says = p.found.says };
-        first = λ a. subst (IsForRoom lane picked p.event) (back a) (p.first (alone_after v u t.events (went_turn C o v u (BeginSays lane request picked (Err why)) t) a));
+        first = λ a. subst (IsForRoom lane picked p.event) (back a) (p.first (alone_after seen v u t.events (went_turn C o v u (BeginSays lane request picked (Err why)) t) a));
         after = p.after;
         same = keeps_on (core_seen C o v) (core_seen C o u) (core_seen C o w) (Lane lane) (same_tried o v u lane request picked why acts free t) p.same;
         coherent = p.coherent;
@@ -268,7 +268,7 @@ module _ {D J : Type 0} (seen : D → DieView) where
         are = is ∙ p.are;
         found = record { before = p.found.before; rest = p.found.rest; since = starts_on v.seen u.seen p.found.before (t.between, seen_is) p.found.since; seen = p.found.seen; says = p.found.says };
         failed = failed_on seen o v u w p.die (t.between, seen_is) p.failed;
-        first = λ a. subst (IsForRoom lane picked (FlushOut (Lane lane) p.die p.block)) (back a) (p.first (alone_after v u t.events (went_turn C o v u (BeginSays lane request picked (Err why)) t) a));
+        first = λ a. subst (IsForRoom lane picked (FlushOut (Lane lane) p.die p.block)) (back a) (p.first (alone_after seen v u t.events (went_turn C o v u (BeginSays lane request picked (Err why)) t) a));
         after = p.after;
         same = keeps_on (core_seen C o v) (core_seen C o u) (core_seen C o w) (Lane lane) (same_tried o v u lane request picked why acts free t) p.same;
         coherent = p.coherent;
@@ -284,7 +284,7 @@ module _ {D J : Type 0} (seen : D → DieView) where
           are = is ∙ p.are;
           because = p.none;
           after = p.after;
-          same = λ a. stays (alone_after v u t.events (went_turn C o v u (BeginSays lane request picked (Err why)) t) a) ∙ back a;
+          same = λ a. stays (alone_after seen v u t.events (went_turn C o v u (BeginSays lane request picked (Err why)) t) a) ∙ back a;
         },
       )
     where

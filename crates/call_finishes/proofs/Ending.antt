@@ -1,6 +1,7 @@
 -- A call that has gathered its pages ends.
-use Rattle.std.proofs.Common.{◌≡◌, ℕ, ◌<◌, Bool, true, false, List, [], ◌∷◌, ◌++◌, Option, Some, None, refl, sym, ap, ◌∙◌, subst, inl, inr, ⊎_elim, append-nil, append_assoc}
+use Rattle.std.proofs.Common.{◌≡◌, ℕ, ◌<◌, Bool, true, false, List, [], ◌∷◌, ◌++◌, Option, Some, None, refl, sym, ap, ◌∙◌, subst, inl, inr, ⊎_elim, append-nil, append_assoc, lit≤}
 use Rattle.std.specs.Prelude.{◌⊎◌, ◌&&◌, not, is_some, is_none, if◌then◌else◌, Result, Ok, Err, IfOk, IfErr}
+use Rattle.std.specs.Result.{IsErr}
 use Rattle.std.specs.declared.snapshot.Snapshot.{Snapshot}
 use Rattle.turn_cell.specs.declared.book.Entry.{Entry}
 use Rattle.turn_cell.specs.declared.view.View.{View}
@@ -51,6 +52,7 @@ use Rattle.job_turns.specs.Making.{IsFree}
 use Rattle.job_turns.specs.Words.{IsNumbered}
 use Rattle.job_turns.proofs.FlushSteps.{shape_at}
 use Rattle.job_turns.proofs.Keeping.{at_flight, own_flying}
+use Rattle.fill_steps.specs.Cut.{IsCutOff}
 use Rattle.fill_steps.specs.Gathering.{call_at, told_at, IsBetween}
 use Rattle.fill_steps.specs.Spans.{IsSameButPages, Gathers, SpanSays}
 use Rattle.fill_steps.proofs.Calls.{owned_kept}
@@ -273,7 +275,30 @@ module _ {D : Type 0} (seen : D → DieView) where
       record {
         events = p.events ++ [];
         went = went_on v u w p.events [] p.went went;
-        says = (of_on (Lane lane) p.events [] p.says.of tt, ap calls_of (append-nil p.events) ∙ p.says.open_still);
+        says = (of_on (Lane lane) p.events [] p.says.of tt, ap calls_of (append-nil p.events) ∙ p.says.open_still, cut);
+      }
+    where
+      cut : v.alone ≡ true → (encode : Core → ℕ → Page) → IsCutOff encode (core_seen C o v) lane old.request (p.events ++ [])
+      cut al encode =
+          let c = core_seen C o v in
+          let run = p.says.run al in
+          record {
+            most = p.events;
+            rest = [];
+            are = refl;
+            short = lit≤ tt;
+            steps = subst (λ (q : Request). Steps (IsStep encode lane q) c p.events) request (p.says.solo al encode);
+            run = subst (λ (z : Core). CoreRun c p.events z) (leads_to p.events c (core_seen C o u) run) run;
+          }
+
+  -- where the turn is worn while the pages are gathered
+  pub fill_worn : (o : S) (v u : V) (lane : ℕ) (old new : Job) (x : Worn) (r : Result Numbered Worn) → IsErr r → IsBegun (core_seen C o v) lane old → Does v u (SpanSays seen o v u (Lane lane) lane new (Err x)) → Does v u (FinishSays seen o v u lane old.request r)
+  fill_worn o v u lane old new x (Ok n) e b p = absurd (cc)
+  fill_worn o v u lane old new x (Err y) e b p =
+      record {
+        events = p.events;
+        went = p.went;
+        says = (p.says.0, p.says.1, λ al encode. subst (λ (q : Request). IsCutOff encode (core_seen C o v) lane q p.events) (sym b.gathering.suits.request) (p.says.2 al (inl (b.held, b.host)) encode));
       }
 
   pub numbered_as : (o q : S) (w : V) (lane : ℕ) (x y : Request) (n : Numbered) → q ≡ o → x ≡ y → IsNumbered q.value.last (calls_of (events_of w.seen)) n.number (record { lane = lane; call = x.call; reply = n.reply }) →

@@ -27,6 +27,7 @@ use Rattle.desk_turns.specs.Passing.{core_seen, FoundAt}
 use Rattle.job_turns.specs.Flushing.{HasFailed}
 use Rattle.job_turns.specs.Making.{IsFree}
 use Rattle.call_job.specs.declared.job.Job.{Job}
+use Rattle.fill_steps.specs.Cut.{IsCutOff}
 use Rattle.fill_steps.specs.Gathering.{call_at, IsGathering}
 
 -- The lane's call is a `read`, `write`, `append` or `trunc` that is held at the host, with no page gathered and no mark, and this is its
@@ -64,7 +65,8 @@ module _ {D J : Type 0} (seen : D → DieView) where
     pub run : v.alone ≡ true → CoreRun (core_seen C o v) es (core_seen C o w)
     pub solo : v.alone ≡ true → (encode : Core → ℕ → Page) → SoloCall encode (core_seen C o v) lane request es
 
-  -- it has ended, or at Worn it hasn't
+  -- It has ended, or at Worn it hasn't. Where the pass is alone, its events are then those of the call in the run of one thread, cut short.
   abbrev pub FinishSays : Snapshot (State D J) → View (Snapshot (State D J)) Event → View (Snapshot (State D J)) Event → ℕ → Request → Result Numbered Worn → List Event → Type 0
   FinishSays o v w lane request (Ok n) es = IsFinished o v w lane request n es
-  FinishSays o v w lane request (Err x) es = AreOf (Lane lane) es × (calls_of es ≡ [])
+  FinishSays o v w lane request (Err x) es =
+      AreOf (Lane lane) es × (calls_of es ≡ []) × (v.alone ≡ true → (encode : Core → ℕ → Page) → IsCutOff encode (core_seen C o v) lane request es)

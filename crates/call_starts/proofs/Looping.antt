@@ -1,5 +1,5 @@
 -- A call that is to begin, step by step.
-use Rattle.std.proofs.Common.{◌≡◌, ℕ, ◌+◌, ◌<◌, ◌≤◌, Bool, true, false, List, [], ◌∷◌, ◌++◌, Some, None, length, refl, sym, ap, ◌∙◌, subst, ⊎_elim, append-nil, append_assoc, arith}
+use Rattle.std.proofs.Common.{◌≡◌, ℕ, ◌+◌, ◌<◌, ◌≤◌, Bool, true, false, List, [], ◌∷◌, ◌++◌, Some, None, length, refl, sym, ap, ◌∙◌, subst, ⊎_elim, append-nil, append_assoc, arith, lit≤}
 use Rattle.std.specs.Prelude.{◌⊎◌, is_some, Result, Ok, Err}
 use Rattle.std.specs.Result.{IsErr}
 use Rattle.std.specs.declared.snapshot.Snapshot.{Snapshot}
@@ -40,6 +40,7 @@ use Rattle.call_job.specs.declared.job.Job.{Job}
 use Rattle.desk_turns.specs.Passing.{core_after, core_seen, FoundAt, Went, Does}
 use Rattle.desk_turns.proofs.Holding.{shapes_kept}
 use Rattle.desk_turns.proofs.Went.{went_on, went_none}
+use Rattle.call_begins.specs.Cut.{IsCutOff}
 use Rattle.call_begins.specs.Flushing.{HasFailed, IsCutShort}
 use Rattle.call_begins.specs.Making.{IsIdleWith, IsFree, IsForRoom, IsWhole, MadeRoom, FailedRoom}
 use Rattle.call_begins.specs.Words.{IsNumbered}
@@ -120,6 +121,9 @@ home_idle m c lane request alone at = home_alone c lane request alone (subst (Ho
 
 some_longer : (e : Event) (es : List Event) → 1 ≤ length (e ∷ es)
 some_longer e es = omega arith
+
+one_long : (e : Event) → length (e ∷ []) ≤ 1
+one_long e = omega arith
 
 abbrev no_page : Core → ℕ → Page
 no_page c n = []
@@ -261,6 +265,10 @@ module _ {D J : Type 0} (seen : D → DieView) where
         went = went_none v;
         says = record { room = tt; are_next = tt; failed = λ e. absurd (cc); at = free; run = λ a. refl; steps = λ a encode. tt; alone = λ a p. p };
       }
+
+  -- of a request that is the same
+  pub asked_as : (q : S) (u w : V) (lane : ℕ) (x y : Request) (stage : Stage) (r : Result BeginStep Worn) → x ≡ y → Does u w (StepSays seen q u w lane x stage r) → Does u w (StepSays seen q u w lane y stage r)
+  asked_as q u w lane x y stage r is p = subst (λ (z : Request). Does u w (StepSays seen q u w lane z stage r)) is p
 
   number_is : (v u : V) (es : List Event) → Went v u es → u.number ≡ v.number
   number_is v u es w = ap (λ (z : V). z.number) w.pass
@@ -404,10 +412,20 @@ module _ {D J : Type 0} (seen : D → DieView) where
   cut_room lane fs p = ⊎_elim (λ (e : fs ≡ []). subst (AreForRoom lane) (sym e) tt)
       (λ (z : (die : ℕ) × (block : ℕ) × (fs ≡ FlushOut (Lane lane) die block ∷ [])). subst (AreForRoom lane) (sym z.2) (refl, tt)) p
 
+  cut_short : (lane : ℕ) (fs : List Event) → IsCutShort (Lane lane) fs → length fs ≤ 1
+  cut_short lane fs p = ⊎_elim (λ (e : fs ≡ []). subst (λ (xs : List Event). length xs ≤ 1) (sym e) (lit≤ tt))
+      (λ (z : (die : ℕ) × (block : ℕ) × (fs ≡ FlushOut (Lane lane) die block ∷ [])). subst (λ (xs : List Event). length xs ≤ 1) (sym z.2) (one_long (FlushOut (Lane lane) z.0 z.1))) p
+
   pub worn_on : (o q : S) (v u w : V) (lane : ℕ) (request : Request) (stage : Stage) (x : Worn) (r : Result Beginning Worn) → q ≡ o → IsErr r → Does v u (Going o v u lane request stage) → Does u w (StepSays seen q u w lane request stage (Err x)) → Does v w (StartSays seen o v w lane request r)
   worn_on o q v u w lane request stage x (Ok b) same e p n = absurd (cc)
   worn_on o q v u w lane request stage x (Err y) same e p n =
-      record { events = p.events ++ n.events; went = went_on v u w p.events n.events p.went n.went; says = room_on lane p.events n.events p.says.room (cut_room lane n.events n.says) }
+      record { events = p.events ++ n.events; went = went_on v u w p.events n.events p.went n.went; says = (room_on lane p.events n.events p.says.room (cut_room lane n.events n.says), cut) }
+    where
+      cut : v.alone ≡ true → (encode : Core → ℕ → Page) → IsCutOff encode (core_seen C o v) lane request (p.events ++ n.events)
+      cut a encode =
+          let c = core_seen C o v in
+          let run = p.says.run a in
+          record { most = p.events; rest = n.events; are = refl; short = cut_short lane n.events n.says; steps = p.says.steps a encode; run = subst (λ (z : Core). CoreRun c p.events z) (leads_to p.events c (core_seen C o u) run) run }
 
   -- ---- alone
 

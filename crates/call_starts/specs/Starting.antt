@@ -20,6 +20,7 @@ use Rattle.system_state.specs.declared.state.State.{State}
 use Rattle.call_job.specs.declared.job.Job.{Job}
 use Rattle.call_begins.specs.Armed.{HasJob}
 use Rattle.desk_turns.specs.Passing.{core_seen, FoundAt}
+use Rattle.call_begins.specs.Cut.{IsCutOff}
 use Rattle.call_begins.specs.Flushing.{HasFailed}
 use Rattle.call_begins.specs.Making.{IsFree, IsForRoom}
 use Rattle.call_begins.specs.Steps.{ended_event, IsAtStart}
@@ -82,7 +83,7 @@ module _ {D J : Type 0} (seen : D → DieView) where
 
   -- what became of a call, and its events; at Worn it has neither begun nor ended
   abbrev pub StartSays : Snapshot (State D J) → View (Snapshot (State D J)) Event → View (Snapshot (State D J)) Event → ℕ → Request → Result Beginning Worn → List Event → Type 0
-  StartSays o v w lane request (Err x) es = AreForRoom lane es
+  StartSays o v w lane request (Err x) es = AreForRoom lane es × (v.alone ≡ true → (encode : Core → ℕ → Page) → IsCutOff encode (core_seen (core_of seen) o v) lane request es)
   StartSays o v w lane request (Ok (Ended n)) es = HasEnded o v w lane request n es
   StartSays o v w lane request (Ok (Started side)) es = HasBegun o v w lane request side es
 

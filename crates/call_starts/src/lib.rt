@@ -5,5 +5,5 @@
 
 mod start;
 
-pub use call_begins::System;
+pub use call_begins::{System, skip_call, skip_call_alone};
 pub use start::{Beginning, begin_call, begin_call_alone};

@@ -1,5 +1,5 @@
 -- All pages of a call, page by page.
-use Rattle.std.proofs.Common.{◌≡◌, ℕ, ◌+◌, ◌*◌, ◌-◌, ◌<◌, ◌≤◌, Bool, true, false, List, [], ◌∷◌, ◌++◌, Option, Some, None, refl, sym, ap, ◌∙◌, subst, inl, inr, ⊎_elim, arith, append_assoc}
+use Rattle.std.proofs.Common.{◌≡◌, ℕ, ◌+◌, ◌*◌, ◌-◌, ◌<◌, ◌≤◌, Bool, true, false, List, [], ◌∷◌, ◌++◌, Option, Some, None, length, refl, sym, ap, ◌∙◌, subst, inl, inr, ⊎_elim, arith, append_assoc}
 use Rattle.std.specs.Prelude.{is_none, if◌then◌else◌, Result, Ok, Err}
 use Rattle.std.specs.Result.{IsErr}
 use Rattle.std.specs.declared.snapshot.Snapshot.{Snapshot}
@@ -11,7 +11,7 @@ use Rattle.flash_die.specs.Dies.{DieView}
 use Rattle.plain_files.specs.History.{Entry}
 use Rattle.core_state.specs.declared.actor.Actor.{Actor}
 use Rattle.core_state.specs.declared.event.Event.{Event}
-use Rattle.core_state.specs.State.{Claim, Reach, Running, Flight, Core}
+use Rattle.core_state.specs.State.{Page, Claim, Reach, Running, Flight, Core}
 use Rattle.core_state.specs.Contents.{is_missing, die_of}
 use Rattle.core_state.specs.DieEvents.{is_home}
 use Rattle.core_state.specs.Happens.{HoldsNone, CoreRun, actor_of}
@@ -31,6 +31,7 @@ use Rattle.desk_turns.specs.Making.{AreOf}
 use Rattle.desk_turns.specs.Passing.{core_seen, FoundAt, Went, Does}
 use Rattle.desk_turns.proofs.Went.{of_on, went_on, went_none}
 use Rattle.event_turns.proofs.FlushSteps.{failed_on as earlier}
+use Rattle.event_turns.specs.Cut.{IsCutOff}
 use Rattle.event_turns.specs.PageTurns.{block_at}
 use Rattle.fill_steps.specs.Gathering.{call_at, IsBetween, IsGathering, HasSpan, IsSameCall, IsInTurn, IsNextGather, is_away}
 use Rattle.fill_steps.specs.Pages.{AreNext}
@@ -203,10 +204,16 @@ module _ {D J : Type 0} (seen : D → DieView) where
       let g = p.says in
       record { events = p.events; went = p.went; says = record { of = g.of; open_still = g.open_still; next = g.next; call = g.call; says = has_span (core_seen C o u) a lane i job g.says l; run = g.run; solo = g.solo } }
 
+  cut_off : (o : Snapshot (State D J)) (v u : View (Snapshot (State D J)) Event) (a : Actor) (lane : ℕ) (P : Core → Type 0) (es fs : List Event) → Gathers seen o v u a lane P es → length fs ≤ 1 → v.alone ≡ true → IsInTurn (call_at (core_seen C o v) lane) → (encode : Core → ℕ → Page) →
+      IsCutOff encode (core_seen C o v) lane (call_at (core_seen C o v) lane).claim.request (es ++ fs)
+  cut_off o v u a lane P es fs p short al turn encode =
+      let c = core_seen C o v in
+      record { most = es; rest = fs; are = refl; short = short; steps = p.solo al turn encode; run = subst (λ (z : Core). CoreRun c es z) (leads_to es c (core_seen C o u) (p.run al)) (p.run al) }
+
   pub on_worn : (o q : Snapshot (State D J)) (v u w : View (Snapshot (State D J)) Event) (a : Actor) (lane i : ℕ) (old new : Job) (x : Worn) (r : Result Bool Worn) → IsErr r → Going o v u a lane i old → Does u w (StepSays seen q u w a lane i new (Err x)) → Does v w (SpanSays seen o v w a lane new r)
   on_worn o q v u w a lane i old new x (Ok y) e p n = absurd (cc)
   on_worn o q v u w a lane i old new x (Err y) e p n =
-      record { events = p.events ++ n.events; went = went_on v u w p.events n.events p.went n.went; says = (of_on a p.events n.events p.says.of n.says.0, calls_on p.events n.events p.says.open_still n.says.1) }
+      record { events = p.events ++ n.events; went = went_on v u w p.events n.events p.went n.went; says = (of_on a p.events n.events p.says.of n.says.0, calls_on p.events n.events p.says.open_still n.says.1, cut_off o v u a lane (λ d. IsGathering d a lane i old) p.events n.events p.says n.says.2) }
 
   -- ---- alone
 

@@ -1,3 +1,4 @@
 pub mod Gathering
 pub mod Pages
 pub mod Spans
+pub use Rattle.event_turns.specs.Cut

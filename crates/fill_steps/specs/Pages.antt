@@ -1,5 +1,5 @@
 -- One page of a call, gathered over a desk. This project's own.
-use Rattle.std.specs.Prelude.{◌≡◌, ℕ, Bool, true, false, List, [], ◌∷◌, Option, Some, None, Result, Ok, Err}
+use Rattle.std.specs.Prelude.{◌≡◌, ℕ, ◌≤◌, Bool, true, false, List, [], ◌∷◌, length, Option, Some, None, Result, Ok, Err}
 use Rattle.std.specs.declared.snapshot.Snapshot.{Snapshot}
 use Rattle.turn_cell.specs.declared.view.View.{View}
 use Rattle.turn_cell.specs.declared.pass.Worn.{Worn}
@@ -25,6 +25,10 @@ use Rattle.event_turns.specs.PageTurns.{MayGather, FillSays, block_at}
 use Rattle.fill_steps.specs.Gathering.{call_at, IsBetween, IsSameBut, IsInTurn, IsNextGather, is_away}
 use Rattle.fill_steps.specs.declared.page.FillStep.{FillStep}
 use Rattle.fill_steps.specs.declared.page.FillStep.TheVariants.{Next, Again, Failed, Waits}
+
+-- what a step made that a worn turn cut short: at most one event, which is the actor's and ends no call
+abbrev pub IsOneAtMost : Actor → List Event → Type 0
+IsOneAtMost actor es = AreOf actor es × (calls_of es ≡ []) × (length es ≤ 1)
 
 -- the page at this place is the lowest one that the lane's call has still to gather, and the actor may gather it
 pub record IsAtPage (c : Core) (actor : Actor) (lane i : ℕ) (mode : Mode) : Type 0 where
@@ -74,7 +78,7 @@ module _ {D J : Type 0} (seen : D → DieView) where
   -- What a try to get the page at place i answers, and its events: the call has it, and it is `page`; it was put in at the call's side, and
   -- is still to be got; a read failed, the die's count of faults rose, and the lane is marked; its die is out.
   abbrev pub PageSays : Snapshot (State D J) → View (Snapshot (State D J)) Event → View (Snapshot (State D J)) Event → Actor → ℕ → ℕ → Page → Result FillStep Worn → List Event → Type 0
-  PageSays o v w actor lane i page (Err x) es = AreOf actor es × (calls_of es ≡ [])
+  PageSays o v w actor lane i page (Err x) es = IsOneAtMost actor es
   PageSays o v w actor lane i page (Ok Next) es = Tried o v w actor lane i false (Some page) es
   PageSays o v w actor lane i page (Ok Again) es = Tried o v w actor lane i false None es × IsPutIn o v w lane i
   PageSays o v w actor lane i page (Ok Failed) es = Tried o v w actor lane i true None es × ((die : ℕ) × HasFailed seen o v w die)

@@ -4,7 +4,7 @@ use Rattle.turn_cell.specs.Desks.{view_alone, opening_alone}
 use Rattle.call_job.specs.declared.job.Job.{Job}
 use Rattle.job_turns.specs.Books.{opening_in}
 use Rattle.job_turns.specs.Words.{IsSmall}
-use Rattle.call_finishes.proofs.Ending.{does_fill, ends_there, held_there, none_there, finish_any, numbered_as, home_after}
+use Rattle.call_finishes.proofs.Ending.{does_fill, ends_there, held_there, none_there, finish_any, fill_worn, numbered_as, home_after}
 use Rattle.call_finishes.proofs.finish.finish_call_alone.Goals as goal
 
 pub turn_end_job-requires-clause-hands : goal.turn_end_job-requires-clause-hands
@@ -53,6 +53,13 @@ returns-clause-did g c =
     let good = c.in_ok-fill_span_alone.field-0 in
     let p = does_fill g.D.Die.seen o v u c.args.lane c.args.job.now c.fill_span_alone.new.job good c.requires.begun e.same c.in_ok-fill_span_alone.ensures.left c.in_ok-fill_span_alone.ensures.did in
     finish_any g.D.Die.seen o q v u (view_alone c.turn_end_job.new.desk) c.args.lane (not good) c.args.job.now c.fill_span_alone.new.job c.turn_end_job.result e.turn.1 (ap (λ (j : Job). j.request) e.same) (inl c.requires.free.2.0) p c.turn_end_job.ensures.did c.turn_end_job.ensures.went
+
+pub returns-in_err-fill_span_alone-clause-did : goal.returns-in_err-fill_span_alone-clause-did
+returns-in_err-fill_span_alone-clause-did g c =
+    let o = opening_alone opening_in c.args.alone.now in
+    let v = view_alone c.args.alone.now in
+    let u = view_alone c.fill_span_alone.new.alone in
+    fill_worn g.D.Die.seen o v u c.args.lane c.args.job.now c.fill_span_alone.new.job c.in_err-fill_span_alone.field-0.0 c.from_residual.result c.from_residual.ensures.0 c.requires.begun c.in_err-fill_span_alone.ensures.did
 
 pub returns-clause-numbered : goal.returns-clause-numbered
 returns-clause-numbered g c = λ n is.
