@@ -154,15 +154,15 @@ ended_answers : (stage : Stage) (lane : ℕ) (request : Request) (n : Numbered) 
 ended_answers Idle lane request n = refl
 ended_answers Marked lane request n = refl
 
-module _ {D J : Type 0} (seen : D → DieView) where
-  abbrev C : State D J → Core
+module _ {D : Type 0} (seen : D → DieView) where
+  abbrev C : State D Job → Core
   C = core_of seen
 
   abbrev S : Type 0
-  S = Snapshot (State D J)
+  S = Snapshot (State D Job)
 
   abbrev V : Type 0
-  V = View (Snapshot (State D J)) Event
+  V = View (Snapshot (State D Job)) Event
 
   -- ---- events for room, one after the other
 
@@ -274,7 +274,7 @@ module _ {D J : Type 0} (seen : D → DieView) where
   number_is v u es w = ap (λ (z : V). z.number) w.pass
 
   told : (o q : S) (u w : V) (lane : ℕ) (request : Request) (stage : Stage) (r s : BeginStep) (fs : List Event) → q ≡ o → r ≡ s → StepSays seen q u w lane request stage (Ok r) fs → StepSays seen o u w lane request stage (Ok s) fs
-  told o q u w lane request stage r s fs same is p = subst (λ (z : Snapshot (State D J) × BeginStep). StepSays seen z.0 u w lane request stage (Ok z.1) fs) (λ i. (same i, is i)) p
+  told o q u w lane request stage r s fs same is p = subst (λ (z : Snapshot (State D Job) × BeginStep). StepSays seen z.0 u w lane request stage (Ok z.1) fs) (λ i. (same i, is i)) p
 
   -- the core that the steps led to
   led : (o : S) (v u : V) (es : List Event) → CoreRun (core_seen C o v) es (core_seen C o u) → after_all (core_seen C o v) es ≡ core_seen C o u
@@ -486,4 +486,4 @@ module _ {D J : Type 0} (seen : D → DieView) where
   pub numbered_as : (o q : S) (w : V) (lane : ℕ) (x y : Request) (n : Numbered) → q ≡ o → x ≡ y → IsNumbered q.value.last (calls_of (events_of w.seen)) n.number (record { lane = lane; call = x.call; reply = n.reply }) →
       IsNumbered o.value.last (calls_of (events_of w.seen)) n.number (record { lane = lane; call = y.call; reply = n.reply })
   numbered_as o q w lane x y n same is k =
-      subst (λ (z : Snapshot (State D J) × Request). IsNumbered z.0.value.last (calls_of (events_of w.seen)) n.number (record { lane = lane; call = z.1.call; reply = n.reply })) (λ i. (same i, is i)) k
+      subst (λ (z : Snapshot (State D Job) × Request). IsNumbered z.0.value.last (calls_of (events_of w.seen)) n.number (record { lane = lane; call = z.1.call; reply = n.reply })) (λ i. (same i, is i)) k

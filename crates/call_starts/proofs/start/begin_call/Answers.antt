@@ -84,7 +84,7 @@ returns-in-Come-clause-did g c =
     let first = c.args.prepared.now.job in
     let old = c.loop.prepared.job in
     let n = asked_as g.D.Die.seen q u w c.args.lane old.request first.request c.loop.stage (Ok c.in_ok-step.step) (ap (λ (j : Job). j.request) i.3) c.in_ok-step.ensures.did in
-    come_on g.D.Die.seen o q v u w c.args.lane first.request c.loop.stage c.in_ok-step.step c.in-Come.beginning i.2.1 (come_of c.in_ok-step.step c.sorted.result c.in-Come.beginning c.sorted.ensures c.in-Come.is) i.4 n
+    come_on g.D.Die.seen o q v u w c.args.lane first.request c.loop.stage c.in_ok-step.step c.in-Come.beginning i.2.1 (come_of c.in_ok-step.step c.sorted-next.result c.in-Come.beginning c.sorted-next.ensures c.in-Come.is) i.4 n
 
 pub returns-in-Come-clause-job : goal.returns-in-Come-clause-job
 returns-in-Come-clause-job g c =
@@ -96,7 +96,7 @@ returns-in-Come-clause-job g c =
     let w = view c.begin_step.new.desk.pass in
     let first = c.args.prepared.now.job in
     let old = c.loop.prepared.job in
-    job_come (core_seen (core_of g.D.Die.seen) o w) c.args.lane first old c.begin_step.new.prepared.job c.in_ok-step.step c.in-Come.beginning (come_of c.in_ok-step.step c.sorted.result c.in-Come.beginning c.sorted.ensures c.in-Come.is) i.3
+    job_come (core_seen (core_of g.D.Die.seen) o w) c.args.lane first old c.begin_step.new.prepared.job c.in_ok-step.step c.in-Come.beginning (come_of c.in_ok-step.step c.sorted-next.result c.in-Come.beginning c.sorted-next.ensures c.in-Come.is) i.3
     (subst (λ z. JobSays (core_seen (core_of g.D.Die.seen) z w) c.args.lane old c.begin_step.new.prepared.job (Ok c.in_ok-step.step)) i.2.1 c.in_ok-step.ensures.job)
 
 pub returns-in-Come-clause-numbered : goal.returns-in-Come-clause-numbered
@@ -110,7 +110,7 @@ returns-in-Come-clause-numbered g c =
     let first = c.args.prepared.now.job in
     let old = c.loop.prepared.job in
     λ n is. numbered_as g.D.Die.seen o q w c.args.lane old.request first.request n i.2.1 (ap (λ (j : Job). j.request) i.3)
-    (c.in_ok-step.ensures.numbered n (ended_told c.in_ok-step.step c.in-Come.beginning n (come_of c.in_ok-step.step c.sorted.result c.in-Come.beginning c.sorted.ensures c.in-Come.is) is))
+    (c.in_ok-step.ensures.numbered n (ended_told c.in_ok-step.step c.in-Come.beginning n (come_of c.in_ok-step.step c.sorted-next.result c.in-Come.beginning c.sorted-next.ensures c.in-Come.is) is))
 
 pub loop-preserved-in-On : goal.loop-preserved-in-On
 loop-preserved-in-On g c =
@@ -127,8 +127,8 @@ loop-preserved-in-On g c =
       (tt, tt),
       e.free,
       (e.turn.0 ∙ i.2.0, e.turn.1 ∙ i.2.1),
-      job_on (core_seen (core_of g.D.Die.seen) q w) c.args.lane old c.begin_step.new.prepared.job c.in_ok-step.step c.in-On.later (on_of c.in_ok-step.step c.sorted.result c.in-On.later c.sorted.ensures c.in-On.is) c.in_ok-step.ensures.job ∙ i.3,
-      on_step g.D.Die.seen o q v u w c.args.lane first.request c.loop.stage c.in-On.later c.in_ok-step.step i.2.1 (on_of c.in_ok-step.step c.sorted.result c.in-On.later c.sorted.ensures c.in-On.is) c.requires.kind c.in_ok-step.ensures.begins i.4 n,
+      job_on (core_seen (core_of g.D.Die.seen) q w) c.args.lane old c.begin_step.new.prepared.job c.in_ok-step.step c.in-On.later (on_of c.in_ok-step.step c.sorted-next.result c.in-On.later c.sorted-next.ensures c.in-On.is) c.in_ok-step.ensures.job ∙ i.3,
+      on_step g.D.Die.seen o q v u w c.args.lane first.request c.loop.stage c.in-On.later c.in_ok-step.step i.2.1 (on_of c.in_ok-step.step c.sorted-next.result c.in-On.later c.sorted-next.ensures c.in-On.is) c.requires.kind c.in_ok-step.ensures.begins i.4 n,
     )
 
 pub loop-preserved : goal.loop-preserved
@@ -147,7 +147,7 @@ loop-preserved g c =
       (tt, tt),
       p.free e.free,
       (p.turn.0 ∙ (e.turn.0 ∙ i.2.0), p.turn.1 ∙ (e.turn.1 ∙ i.2.1)),
-      job_waits (core_seen (core_of g.D.Die.seen) q w) c.args.lane old c.begin_step.new.prepared.job c.in_ok-step.step (waits_of c.in_ok-step.step c.sorted.result c.sorted.ensures c.in-Waits.is) c.in_ok-step.ensures.job ∙ i.3,
+      job_waits (core_seen (core_of g.D.Die.seen) q w) c.args.lane old c.begin_step.new.prepared.job c.in_ok-step.step (waits_of c.in_ok-step.step c.sorted-next.result c.sorted-next.ensures c.in-Waits.is) c.in_ok-step.ensures.job ∙ i.3,
       subst (λ (z : View (Snapshot (State g.row.D.Denot Job)) Event). Does v z (Going g.D.Die.seen o v z c.args.lane first.request c.loop.stage)) (sym p.view)
-          (waits_on g.D.Die.seen o q v u w c.args.lane first.request c.loop.stage c.in_ok-step.step i.2.1 (waits_of c.in_ok-step.step c.sorted.result c.sorted.ensures c.in-Waits.is) i.4 n),
+          (waits_on g.D.Die.seen o q v u w c.args.lane first.request c.loop.stage c.in_ok-step.step i.2.1 (waits_of c.in_ok-step.step c.sorted-next.result c.sorted-next.ensures c.in-Waits.is) i.4 n),
     )

@@ -84,7 +84,7 @@ returns-in-Come-clause-did g c =
     let first = c.args.prepared.now.job in
     let old = c.loop-step.prepared.job in
     let n = asked_as g.D.Die.seen q u w c.args.lane old.request first.request c.loop-step.stage (Ok c.in_ok-step.step) (ap (λ (j : Job). j.request) i.2) c.in_ok-step.ensures.did in
-    come_on g.D.Die.seen o q v u w c.args.lane first.request c.loop-step.stage c.in_ok-step.step c.in-Come.beginning i.1.1 (come_of c.in_ok-step.step c.sorted.result c.in-Come.beginning c.sorted.ensures c.in-Come.is) i.3 n
+    come_on g.D.Die.seen o q v u w c.args.lane first.request c.loop-step.stage c.in_ok-step.step c.in-Come.beginning i.1.1 (come_of c.in_ok-step.step c.sorted-next.result c.in-Come.beginning c.sorted-next.ensures c.in-Come.is) i.3 n
 
 pub returns-in-Come-clause-job : goal.returns-in-Come-clause-job
 returns-in-Come-clause-job g c =
@@ -96,7 +96,7 @@ returns-in-Come-clause-job g c =
     let w = view_alone c.begin_step.new.desk in
     let first = c.args.prepared.now.job in
     let old = c.loop-step.prepared.job in
-    job_come (core_seen (core_of g.D.Die.seen) o w) c.args.lane first old c.begin_step.new.prepared.job c.in_ok-step.step c.in-Come.beginning (come_of c.in_ok-step.step c.sorted.result c.in-Come.beginning c.sorted.ensures c.in-Come.is) i.2
+    job_come (core_seen (core_of g.D.Die.seen) o w) c.args.lane first old c.begin_step.new.prepared.job c.in_ok-step.step c.in-Come.beginning (come_of c.in_ok-step.step c.sorted-next.result c.in-Come.beginning c.sorted-next.ensures c.in-Come.is) i.2
     (subst (λ z. JobSays (core_seen (core_of g.D.Die.seen) z w) c.args.lane old c.begin_step.new.prepared.job (Ok c.in_ok-step.step)) i.1.1 c.in_ok-step.ensures.job)
 
 pub returns-in-Come-clause-numbered : goal.returns-in-Come-clause-numbered
@@ -110,7 +110,7 @@ returns-in-Come-clause-numbered g c =
     let first = c.args.prepared.now.job in
     let old = c.loop-step.prepared.job in
     λ n is. numbered_as g.D.Die.seen o q w c.args.lane old.request first.request n i.1.1 (ap (λ (j : Job). j.request) i.2)
-    (c.in_ok-step.ensures.numbered n (ended_told c.in_ok-step.step c.in-Come.beginning n (come_of c.in_ok-step.step c.sorted.result c.in-Come.beginning c.sorted.ensures c.in-Come.is) is))
+    (c.in_ok-step.ensures.numbered n (ended_told c.in_ok-step.step c.in-Come.beginning n (come_of c.in_ok-step.step c.sorted-next.result c.in-Come.beginning c.sorted-next.ensures c.in-Come.is) is))
 
 pub loop-step-preserved : goal.loop-step-preserved
 loop-step-preserved g c =
@@ -126,8 +126,8 @@ loop-step-preserved g c =
     let e = c.begin_step.ensures in (
       e.free,
       (e.turn.0 ∙ i.1.0, e.turn.1 ∙ i.1.1),
-      job_on (core_seen (core_of g.D.Die.seen) q w) c.args.lane old c.begin_step.new.prepared.job c.in_ok-step.step c.in-On.later (on_of c.in_ok-step.step c.sorted.result c.in-On.later c.sorted.ensures c.in-On.is) c.in_ok-step.ensures.job ∙ i.2,
-      on_step g.D.Die.seen o q v u w c.args.lane first.request c.loop-step.stage c.in-On.later c.in_ok-step.step i.1.1 (on_of c.in_ok-step.step c.sorted.result c.in-On.later c.sorted.ensures c.in-On.is) c.requires.kind c.in_ok-step.ensures.begins i.3 n,
+      job_on (core_seen (core_of g.D.Die.seen) q w) c.args.lane old c.begin_step.new.prepared.job c.in_ok-step.step c.in-On.later (on_of c.in_ok-step.step c.sorted-next.result c.in-On.later c.sorted-next.ensures c.in-On.is) c.in_ok-step.ensures.job ∙ i.2,
+      on_step g.D.Die.seen o q v u w c.args.lane first.request c.loop-step.stage c.in-On.later c.in_ok-step.step i.1.1 (on_of c.in_ok-step.step c.sorted-next.result c.in-On.later c.sorted-next.ensures c.in-On.is) c.requires.kind c.in_ok-step.ensures.begins i.3 n,
     )
 
 pub loop-step-smaller : goal.loop-step-smaller
@@ -142,7 +142,7 @@ loop-step-smaller g c =
     let old = c.loop-step.prepared.job in
     let n = asked_as g.D.Die.seen q u w c.args.lane old.request first.request c.loop-step.stage (Ok c.in_ok-step.step) (ap (λ (j : Job). j.request) i.2) c.in_ok-step.ensures.did in
     let e = c.begin_step.ensures in
-    let l = on_falls g.D.Die.seen o q v u w c.args.lane first.request c.loop-step.stage c.in-On.later c.in_ok-step.step i.1.1 (on_of c.in_ok-step.step c.sorted.result c.in-On.later c.sorted.ensures c.in-On.is) c.requires.kind c.in_ok-step.ensures.begins c.requires.free.2.0 c.requires.alone i.3 n in
+    let l = on_falls g.D.Die.seen o q v u w c.args.lane first.request c.loop-step.stage c.in-On.later c.in_ok-step.step i.1.1 (on_of c.in_ok-step.step c.sorted-next.result c.in-On.later c.sorted-next.ensures c.in-On.is) c.requires.kind c.in_ok-step.ensures.begins c.requires.free.2.0 c.requires.alone i.3 n in
     subst (λ z. call_left (core_seen (core_of g.D.Die.seen) z w) c.args.lane < call_left (core_seen (core_of g.D.Die.seen) q u) c.args.lane) (sym (e.turn.1 ∙ i.1.1))
     (subst (λ z. call_left (core_seen (core_of g.D.Die.seen) o w) c.args.lane < call_left (core_seen (core_of g.D.Die.seen) z u) c.args.lane) (sym i.1.1) l)
 
@@ -157,7 +157,7 @@ unreachable-requires g c =
     let first = c.args.prepared.now.job in
     let old = c.loop-step.prepared.job in
     let n = asked_as g.D.Die.seen q u w c.args.lane old.request first.request c.loop-step.stage (Ok c.in_ok-step.step) (ap (λ (j : Job). j.request) i.2) c.in_ok-step.ensures.did in
-    never_waits g.D.Die.seen o q v u w c.args.lane first.request c.loop-step.stage c.in_ok-step.step i.1.1 (waits_of c.in_ok-step.step c.sorted.result c.sorted.ensures c.in-Waits.is) c.requires.frames c.in_ok-step.ensures.begins c.requires.free.2.0 c.requires.alone i.3 n
+    never_waits g.D.Die.seen o q v u w c.args.lane first.request c.loop-step.stage c.in_ok-step.step i.1.1 (waits_of c.in_ok-step.step c.sorted-next.result c.sorted-next.ensures c.in-Waits.is) c.requires.frames c.in_ok-step.ensures.begins c.requires.free.2.0 c.requires.alone i.3 n
 
 pub returns-in-Come-clause-home : goal.returns-in-Come-clause-home
 returns-in-Come-clause-home g c =
@@ -170,7 +170,7 @@ returns-in-Come-clause-home g c =
     let first = c.args.prepared.now.job in
     let old = c.loop-step.prepared.job in
     let n = asked_as g.D.Die.seen q u w c.args.lane old.request first.request c.loop-step.stage (Ok c.in_ok-step.step) (ap (λ (j : Job). j.request) i.2) c.in_ok-step.ensures.did in
-    home_then g.D.Die.seen o q v u w c.args.lane first.request c.loop-step.stage c.in_ok-step.step c.in-Come.beginning i.1.1 (come_of c.in_ok-step.step c.sorted.result c.in-Come.beginning c.sorted.ensures c.in-Come.is) c.in_ok-step.ensures.begins c.requires.free.2.0 c.requires.alone i.3 n
+    home_then g.D.Die.seen o q v u w c.args.lane first.request c.loop-step.stage c.in_ok-step.step c.in-Come.beginning i.1.1 (come_of c.in_ok-step.step c.sorted-next.result c.in-Come.beginning c.sorted-next.ensures c.in-Come.is) c.in_ok-step.ensures.begins c.requires.free.2.0 c.requires.alone i.3 n
 
 pub returns-in-Come-clause-alone : goal.returns-in-Come-clause-alone
 returns-in-Come-clause-alone g c =
@@ -183,4 +183,4 @@ returns-in-Come-clause-alone g c =
     let first = c.args.prepared.now.job in
     let old = c.loop-step.prepared.job in
     let n = asked_as g.D.Die.seen q u w c.args.lane old.request first.request c.loop-step.stage (Ok c.in_ok-step.step) (ap (λ (j : Job). j.request) i.2) c.in_ok-step.ensures.did in
-    λ side is. still_alone g.D.Die.seen o q v u w c.args.lane first.request c.loop-step.stage c.in_ok-step.step c.in-Come.beginning side i.1.1 (come_of c.in_ok-step.step c.sorted.result c.in-Come.beginning c.sorted.ensures c.in-Come.is) is c.in_ok-step.ensures.begins c.requires.free.2.0 c.requires.alone i.3 n
+    λ side is. still_alone g.D.Die.seen o q v u w c.args.lane first.request c.loop-step.stage c.in_ok-step.step c.in-Come.beginning side i.1.1 (come_of c.in_ok-step.step c.sorted-next.result c.in-Come.beginning c.sorted-next.ensures c.in-Come.is) is c.in_ok-step.ensures.begins c.requires.free.2.0 c.requires.alone i.3 n
