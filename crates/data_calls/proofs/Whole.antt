@@ -95,11 +95,11 @@ self_prepared request job p = subst (λ (r : Request). IsPrepared r job) (sym p.
 
 calls_on : (es fs : List Event) → calls_of es ≡ [] → calls_of fs ≡ [] → calls_of (es ++ fs) ≡ []
 calls_on [] fs p q = q
-calls_on (e ∷ es) fs p q = go (entry_of e) p
+calls_on (e ∷ es) fs p q = go (entry_of e) (λ k. calls_on es fs k q) p
   where
-    go : (x : Option Entry) → and_then x (calls_of es) ≡ [] → and_then x (calls_of (es ++ fs)) ≡ []
-    go None k = calls_on es fs k q
-    go (Some x) k = absurd (cc)
+    go : (x : Option Entry) → (calls_of es ≡ [] → calls_of (es ++ fs) ≡ []) → and_then x (calls_of es) ≡ [] → and_then x (calls_of (es ++ fs)) ≡ []
+    go None more k = more k
+    go (Some x) more k = absurd (cc)
 
 end_of : (stage : Stage) (lane : ℕ) (request : Request) (n : Numbered) → actor_of (ended_event stage lane request n) ≡ Lane lane
 end_of Idle lane request n = refl
@@ -118,8 +118,8 @@ at_call : (c : Core) (lane : ℕ) (x : Flight) → c.calls lane ≡ Some x → c
 at_call c lane x e = ap (λ (o : Option Flight). unwrap_or o no_flight) e
 
 at_host : (s : Side) → (s ≡ Drive → ⊥) → s ≡ Host
-at_host Host no = refl
-at_host Drive no = absurd (no refl)
+at_host Host never = refl
+at_host Drive never = absurd (never refl)
 
 -- a call without a function that has just begun gathers its pages at the host
 pub begun_here : (c : Core) (lane : ℕ) (request : Request) (side : Side) (job : Job) → Coherent c → is_data request.call ≡ true → is_lambda request.call ≡ false → IsAtStart c lane request side → HasJob c lane job → IsBegun c lane job
@@ -139,14 +139,14 @@ begun_here c lane request side job h on runs s j =
         fresh = j.fresh;
       };
       held = held;
-      host = ap (λ (f : Flight). f.claim.side) at ∙ at_host s.call.claim.side (λ d. no (is_lambda s.call.claim.request.call) (right.drive d) (ap (λ (r : Request). is_lambda r.call) s.request_is ∙ runs));
+      host = ap (λ (f : Flight). f.claim.side) at ∙ at_host s.call.claim.side (λ d. apart (is_lambda s.call.claim.request.call) (right.drive d) (ap (λ (r : Request). is_lambda r.call) s.request_is ∙ runs));
       is_on_file = ap (λ (r : Request). is_data r.call) asked ∙ on;
       runs_not = ap (λ (r : Request). is_lambda r.call) asked ∙ runs;
     }
   where
-    no : (t : Bool) → t ≡ true → t ≡ false → ⊥
-    no true p q = absurd (cc)
-    no false p q = absurd (cc)
+    apart : (t : Bool) → t ≡ true → t ≡ false → ⊥
+    apart true p q = absurd (cc)
+    apart false p q = absurd (cc)
 
 -- its job is for its request
 pub asked_here : (c : Core) (lane : ℕ) (request : Request) (side : Side) (job : Job) → IsAtStart c lane request side → HasJob c lane job → job.request ≡ request

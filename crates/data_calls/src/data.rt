@@ -1,5 +1,5 @@
 //! Data calls without a function: memory for a call, its beginning and its end.
-ghost use Rattle.std.specs.Prelude.{◌≡◌, ℕ, None, true, false, inl, Ok, IfErr};
+ghost use Rattle.std.specs.Prelude.{◌≡◌, ℕ, None, true, false, Ok, IfErr};
 ghost use Rattle.turn_cell.specs.Desks.{IsFreeAlone, view_alone, opening_alone, table_alone};
 ghost use Rattle.turn_cell.specs.Events.{events_of};
 ghost use Rattle.turn_cell.specs.Steps.{IsWorn};
