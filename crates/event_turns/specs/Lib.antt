@@ -3,6 +3,7 @@ pub mod LaneTurns
 pub mod MetaTurns
 pub mod PageTurns
 pub mod JobTurns
+pub mod Cut
 pub use Rattle.flushes.specs.Ways
 pub use Rattle.flushes.specs.Begun
 pub use Rattle.flushes.specs.BegunAnswer

@@ -1,5 +1,5 @@
 -- One page of a call: one turn, or two with the die's work between.
-use Rattle.std.proofs.Common.{◌≡◌, ℕ, ◌<◌, Bool, true, false, List, [], ◌∷◌, ◌++◌, Option, Some, None, refl, sym, ap, ◌∙◌, subst, append-nil}
+use Rattle.std.proofs.Common.{◌≡◌, ℕ, ◌<◌, ◌≤◌, Bool, true, false, List, [], ◌∷◌, ◌++◌, length, Option, Some, None, refl, sym, ap, ◌∙◌, subst, append-nil, arith}
 use Rattle.std.specs.Prelude.{Result, Ok, Err, not}
 use Rattle.std.specs.Result.{IsErr}
 use Rattle.std.specs.declared.snapshot.Snapshot.{Snapshot}
@@ -305,10 +305,10 @@ module _ {D J : Type 0} (seen : D → DieView) where
 
   pub page_worn : (o : Snapshot (State D J)) (v w : View (Snapshot (State D J)) Event) (a : Actor) (lane i : ℕ) (page : Page) (r : Result FillStep Worn) → IsErr r → Went v w [] → Does v w (PageSays seen o v w a lane i page r)
   page_worn o v w a lane i page (Ok x) e went = absurd (cc)
-  page_worn o v w a lane i page (Err y) e went = record { events = []; went = went; says = (tt, refl) }
+  page_worn o v w a lane i page (Err y) e went = record { events = []; went = went; says = (tt, refl, omega arith) }
 
   pub home_worn : (o : Snapshot (State D J)) (v u w : View (Snapshot (State D J)) Event) (P : Core → List Event → Type 0) (a : Actor) (lane i n : ℕ) (page : Page) (r : Result FillStep Worn) → IsErr r → (t : Turn C o v u P) → t.events ≡ DieOut a n (Fill lane i) ∷ [] → Went u w [] → Does v w (PageSays seen o v w a lane i page r)
   home_worn o v u w P a lane i n page (Ok x) e t is went = absurd (cc)
   home_worn o v u w P a lane i n page (Err y) e t is went =
       let es : t.events ++ [] ≡ DieOut a n (Fill lane i) ∷ [] = append-nil t.events ∙ is in
-      record { events = t.events ++ []; went = went_on v u w t.events [] (went_turn C o v u P t) went; says = (subst (AreOf a) (sym es) (refl, tt), ap calls_of es) }
+      record { events = t.events ++ []; went = went_on v u w t.events [] (went_turn C o v u P t) went; says = (subst (AreOf a) (sym es) (refl, tt), ap calls_of es, subst (λ (fs : List Event). length fs ≤ 1) (sym es) (omega arith)) }
