@@ -1,18 +1,21 @@
 -- One reply more in the logs.
-use Rattle.std.proofs.Common.{◌≡◌, ℕ, ◌+◌, ◌<◌, ◌≤◌, Bool, true, false, List, [], ◌∷◌, ◌++◌, Option, Some, None, length, get_or, set, refl, sym, ap, ◌∙◌, subst, inl, inr, ⊎_elim, arith, length-append, append-nil}
-use Rattle.std.specs.Prelude.{◌≢◌, ◌⊎◌, ◌==◌, if◌then◌else◌, slice_get}
+use Rattle.std.proofs.Common.{◌≡◌, ℕ, zero, suc, ◌+◌, ◌<◌, ◌≤◌, Bool, true, false, List, [], ◌∷◌, ◌++◌, Option, Some, None, length, get_or, set, refl, sym, ap, ◌∙◌, subst, inl, inr, ⊎_elim, arith, length-append, append-nil}
+use Rattle.std.specs.Prelude.{◌≢◌, ◌⊎◌, ◌==◌, if◌then◌else◌, slice_get, unwrap_or, option_map, vec_capacity}
 use Rattle.std.proofs.lemmas.Bool.Decides.{nat_tests}
 use Rattle.std.proofs.lemmas.List.{get_or-set_other, length-set}
 use Rattle.std.proofs.lemmas.Grind.{get_or-set_at}
-use Rattle.std.proofs.lemmas.Option.{slice_get_within, slice_get_read, get_or_from_slice_get}
+use Rattle.std.proofs.lemmas.Option.{slice_get-map, slice_get_within, slice_get_read, get_or_from_slice_get}
 use Rattle.index_lists.specs.Words.{one_if}
 use Rattle.index_lists.proofs.Counts.{same_or_not}
 use Rattle.plain_files.specs.declared.calls.Numbered.{Numbered}
 use Rattle.plain_files.specs.declared.calls.Reply.{Reply}
-use Rattle.plain_files.specs.History.{Entry}
+use Rattle.plain_files.specs.declared.calls.Request.{Request}
+use Rattle.plain_files.specs.History.{Entry, requests_of}
+use Rattle.script_words.specs.declared.script.Lane.{Lane}
+use Rattle.script_words.specs.Lanes.{requests_by_lane}
 use Rattle.core_solo.specs.Settling.{lines_of}
 use Rattle.solo_runs.specs.declared.logs.LaneLog.{LaneLog}
-use Rattle.solo_runs.specs.Logs.{replies_to, AreLogs}
+use Rattle.solo_runs.specs.Logs.{replies_to, AreLogs, HaveRoom}
 use Rattle.solo_runs.specs.Lines.{AreCallsOf}
 
 abbrev reply_at : ℕ → Reply → Numbered
@@ -27,17 +30,14 @@ pub replies_more : (lane last : ℕ) (calls : List Entry) (e : Entry) → replie
 replies_more lane last [] e =
     let n : last + 1 ≡ last + 0 + 1 = omega arith in
     ap (λ (k : ℕ). one_of lane k e) n
-replies_more lane last (x ∷ calls) e = go (x.lane == lane)
+replies_more lane last (x ∷ calls) e =
+    let n : last + 1 + length calls + 1 ≡ last + length (x ∷ calls) + 1 = omega arith in
+    more_by (x.lane == lane) (reply_at (last + 1) x.reply) (replies_to lane (last + 1) (calls ++ e ∷ [])) (replies_to lane (last + 1) calls) (one_of lane (last + length (x ∷ calls) + 1) e)
+    (replies_more lane (last + 1) calls e ∙ ap (λ (m : ℕ). replies_to lane (last + 1) calls ++ one_of lane m e) n)
   where
-    k : replies_to lane (last + 1) (calls ++ e ∷ []) ≡ replies_to lane (last + 1) calls ++ one_of lane (last + length (x ∷ calls) + 1) e
-    k =
-        let n : last + 1 + length calls + 1 ≡ last + length (x ∷ calls) + 1 = omega arith in
-        replies_more lane (last + 1) calls e ∙ ap (λ (m : ℕ). replies_to lane (last + 1) calls ++ one_of lane m e) n
-
-    go : (t : Bool) → (if t then reply_at (last + 1) x.reply ∷ replies_to lane (last + 1) (calls ++ e ∷ []) else replies_to lane (last + 1) (calls ++ e ∷ []))
-        ≡ (if t then reply_at (last + 1) x.reply ∷ replies_to lane (last + 1) calls else replies_to lane (last + 1) calls) ++ one_of lane (last + length (x ∷ calls) + 1) e
-    go true = ap (λ (xs : List Numbered). reply_at (last + 1) x.reply ∷ xs) k
-    go false = k
+    more_by : (t : Bool) (y : Numbered) (xs ys zs : List Numbered) → xs ≡ ys ++ zs → (if t then y ∷ xs else xs) ≡ (if t then y ∷ ys else ys) ++ zs
+    more_by true y xs ys zs k = ap (λ (ws : List Numbered). y ∷ ws) k
+    more_by false y xs ys zs k = k
 
 one_here : (lane number : ℕ) (e : Entry) → e.lane ≡ lane → one_of lane number e ≡ reply_at number e.reply ∷ []
 one_here lane number e same =
@@ -125,3 +125,37 @@ lines_left lane before rest line same =
     let o = ap one_if t in
     let k = lines_both lane before (line ∷ rest) in
     omega arith
+
+-- ---- new logs
+
+last_of : {A : Type 0} (xs : List A) (x y : A) (l : ℕ) → slice_get (xs ++ x ∷ []) l ≡ Some y → (slice_get xs l ≡ Some y) ⊎ ((l ≡ length xs) × (x ≡ y))
+last_of [] x y zero e = inr (refl, cc)
+last_of [] x y (suc l) e = absurd (cc)
+last_of (z ∷ xs) x y zero e = inl e
+last_of (z ∷ xs) x y (suc l) e = ⊎_elim (λ k. inl k) (λ k. let n = k.0 in inr (omega arith, k.1)) (last_of xs x y l e)
+
+pub one_log_more : (n last : ℕ) (logs : List LaneLog) (log : LaneLog) → AreLogs n last [] logs → log.lane ≡ n → log.entries.items ≡ [] → AreLogs (n + 1) last [] (logs ++ log ∷ [])
+one_log_more n last logs log are lane none = record {
+  count = let k = are.count in omega (arith, length-append logs (log ∷ []));
+  lane = λ l x at. ⊎_elim (λ k. are.lane l x k) (λ k. ap (λ (z : LaneLog). z.lane) (sym k.1) ∙ (lane ∙ (sym are.count ∙ sym k.0))) (last_of logs log x l at);
+  replies = λ l x at. ⊎_elim (λ k. are.replies l x k) (λ k. ap (λ (z : LaneLog). z.entries.items) (sym k.1) ∙ none) (last_of logs log x l at);
+}
+
+pub no_logs : (last : ℕ) → AreLogs 0 last [] []
+no_logs last = record { count = refl; lane = λ l x at. absurd (cc); replies = λ l x at. absurd (cc) }
+
+asked_of : (lanes : List Lane) (n : ℕ) (x : Lane) → n < length lanes → x ≡ get_or lanes n x → requests_of (requests_by_lane lanes) n ≡ x.requests
+asked_of lanes n x low here =
+    ap (λ (o : Option (List Request)). unwrap_or o []) (slice_get-map (λ (l : Lane). l.requests) lanes n ∙ ap (option_map (λ (l : Lane). l.requests)) (slice_get_read lanes (length lanes) n x refl low here))
+
+pub one_room_more : (lanes : List Lane) (n : ℕ) (x : Lane) (logs : List LaneLog) (log : LaneLog) → n ≡ length logs → n < length lanes → x ≡ get_or lanes n x → vec_capacity log.entries ≡ length x.requests →
+    HaveRoom (requests_by_lane lanes) logs → HaveRoom (requests_by_lane lanes) (logs ++ log ∷ [])
+one_room_more lanes n x logs log count low here room have l y at = ⊎_elim (λ k. have l y k)
+    (λ k.
+    let a : l ≡ n = k.0 ∙ sym count in
+    let b = ap length (ap (requests_of (requests_by_lane lanes)) a ∙ asked_of lanes n x low here) in
+    let c = ap (λ (z : LaneLog). vec_capacity z.entries) k.1 in
+    omega arith) (last_of logs log y l at)
+
+pub no_calls : (last : ℕ) → AreCallsOf last [] []
+no_calls last = record { many = refl; each = λ l. refl }

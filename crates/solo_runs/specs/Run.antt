@@ -1,11 +1,8 @@
 -- The run of one thread by the only pass. This project's own.
-use Rattle.std.specs.Prelude.{◌≡◌, ◌≤◌, ℕ, ◌+◌, ◌*◌, ◌^◌, Bool, true, false, List, [], ◌++◌, length, None, Result, Ok, Err}
+use Rattle.std.specs.Prelude.{◌≡◌, ◌≤◌, ℕ, ◌+◌, ◌*◌, Bool, true, false, List, ◌++◌, length, None, Result, Ok, Err}
 use Rattle.std.specs.declared.snapshot.Snapshot.{Snapshot}
-use Rattle.turn_cell.specs.declared.book.Entry.{Entry}
 use Rattle.turn_cell.specs.declared.view.View.{View}
-use Rattle.turn_cell.specs.declared.team.Front.{Front}
 use Rattle.turn_cell.specs.declared.pass.Worn.{Worn}
-use Rattle.turn_cell.specs.Passes.{view}
 use Rattle.flash_die.specs.Dies.{DieView}
 use Rattle.core_state.specs.declared.event.Event.{Event}
 use Rattle.core_state.specs.State.{Core}
@@ -14,16 +11,14 @@ use Rattle.core_state.specs.Coherent.{Coherent}
 use Rattle.core_state.specs.Happens.{CoreRun, after_all}
 use Rattle.core_solo.specs.Solo.{Script, SoloLines, SoloEnd, enters, leaves}
 use Rattle.core_solo.specs.Alone.{OpeningFrames}
-use Rattle.core_solo.specs.Settling.{IsFresh}
+use Rattle.core_solo.specs.Settling.{IsFresh, IsSettling}
 use Rattle.core_solo.specs.Stored.{IsAllStored}
 use Rattle.core_closing.specs.Kept.{MaySettle}
 use Rattle.system_state.specs.Cores.{core_of}
 use Rattle.system_state.specs.declared.state.State.{State}
 use Rattle.system_metas.specs.Encode.{encode}
 use Rattle.desk_turns.specs.Passing.{core_seen}
-use Rattle.settling.specs.Books.{opening_in}
-use Rattle.settling.specs.Steps.{EndsInFailure, IsUnfailed}
-use Rattle.settling.specs.SystemOf.{System}
+use Rattle.settling.specs.Steps.{EndsInFailure}
 use Rattle.settling.specs.declared.last_sync.Settled.{Settled}
 use Rattle.settling.specs.declared.last_sync.Settled.TheVariants.{NotAsked, Done, Failed}
 use Rattle.solo_lanes.specs.Lanes.{AreHome}
@@ -53,6 +48,10 @@ module _ {D J : Type 0} (seen : D → DieView) where
     pub run : CoreRun (core_seen (core_of seen) o v) es (core_seen (core_of seen) o w)
     pub ready : MaySettle (core_seen (core_of seen) o w)
     pub home : AreHome (core_seen (core_of seen) o w)
+    pub closer : (core_seen (core_of seen) o w).closer ≡ 0
+    pub settling : IsSettling (core_seen (core_of seen) o w)
+    pub coherent : Coherent (core_seen (core_of seen) o w)
+    pub frames : OpeningFrames (core_seen (core_of seen) o w).shape
 
   abbrev pub ScriptSays : Snapshot (State D J) → View (Snapshot (State D J)) Event → View (Snapshot (State D J)) Event → Script → Result (Unit {0}) Worn → List Event → Type 0
   ScriptSays o v w script (Ok x) es = HasRunScript o v w script es

@@ -7,10 +7,10 @@
 mod line_calls;
 mod lines;
 mod logs;
-mod making;
-mod run;
+//mod making;
+//mod run;
 
 pub use line_calls::LineCalls;
 pub use logs::LaneLog;
-pub use run::{Ran, run_over};
+//pub use run::{Ran, run_over};
 pub use settling::Settled;
