@@ -81,6 +81,10 @@ length_map : {A B : Type 0} (f : A → B) (xs : List A) → length (map f xs) �
 length_map f [] = refl
 length_map f (x ∷ xs) = let k = length_map f xs in omega arith
 
+-- the script's lanes, as the run of one thread has them
+pub requests_long : (s : ScriptLines) → length s.lanes ≡ length (script_of s).lanes
+requests_long s = sym (length_map (λ (l : Lane). l.requests) s.lanes)
+
 pub line_lane : (s : ScriptLines) (line : ℕ × ℕ) (request : Request) → request_at (script_of s) line ≡ Some request → line.0 < length s.lanes
 line_lane s line request asks = let k = line_low (requests s) line request asks in let l = length_map (λ (l : Lane). l.requests) s.lanes in omega arith
 

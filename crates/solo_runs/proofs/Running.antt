@@ -30,7 +30,8 @@ use Rattle.core_solo.proofs.Rests.{shape_all}
 use Rattle.core_solo.proofs.Calls.{line_low, lines_rest}
 use Rattle.core_solo.proofs.Whole.{HasParts, parts_of}
 use Rattle.core_solo.proofs.Folds.{after_both}
-use Rattle.core_closing.specs.Kept.{MaySettle, IsStoredSoFar, IsFailedWrite}
+use Rattle.core_closing.specs.Kept.{MaySettle, IsFailedWrite}
+use Rattle.core_closing.proofs.Keeps.{none_yet as none_stored}
 use Rattle.system_state.specs.Cores.{core_of}
 use Rattle.system_state.specs.declared.state.State.{State}
 use Rattle.system_metas.specs.Encode.{encode}
@@ -69,9 +70,29 @@ none_holds c home die out e = let h = home die in absurd (cc)
 pub unentered : (script : Script) (c : Core) → MayRun script c → IsUnentered c
 unentered script c m = record { outside = λ l low. ap (λ (w : LaneState). w.stage) (m.new l); still = m.fresh.still; home = m.fresh.home }
 
--- and the closer has written nothing of the meta data
-none_stored : (c : Core) → c.closer ≡ 0 → IsStoredSoFar encode c
-none_stored c none = record { meta = λ number low. absurd (omega arith); clean = λ low. absurd (omega arith) }
+-- ---- a history that ends with a lane
+
+last_is : (xs ys : List (Entry Event)) (a b : Entry Event) → xs ++ a ∷ [] ≡ ys ++ b ∷ [] → a ≡ b
+last_is [] [] a b e = cc
+last_is [] (y ∷ []) a b e = absurd (cc)
+last_is [] (y ∷ z ∷ ys) a b e = absurd (cc)
+last_is (x ∷ []) [] a b e = absurd (cc)
+last_is (x ∷ z ∷ xs) [] a b e = absurd (cc)
+last_is (x ∷ xs) (y ∷ ys) a b e = let k : xs ++ a ∷ [] ≡ ys ++ b ∷ [] = cc in last_is xs ys a b k
+
+left_last : (h : List (Entry Event)) (es : List Event) (n lane : ℕ) → EndsInFailure (h ++ map (entry n) (es ++ Leave lane ∷ [])) → ⊥
+left_last h es n lane f =
+    let is : h ++ map (entry n) (es ++ Leave lane ∷ []) ≡ (h ++ map (entry n) es) ++ entry n (Leave lane) ∷ [] =
+        ap (λ (xs : List (Entry Event)). h ++ xs) (map-append (entry n) es (Leave lane ∷ [])) ∙ sym (append_assoc h (map (entry n) es) (entry n (Leave lane) ∷ [])) in
+    let same : f.1 ≡ entry n (Leave lane) = last_is f.0 (h ++ map (entry n) es) f.1 (entry n (Leave lane)) (sym f.2 ∙ is) in
+    subst (λ (e : Entry Event). IsFailedWrite e.event) same f.3
+
+no_lines : (script : Script) (c : Core) (es : List Event) → length script.lanes ≡ 0 → SoloLines encode c script script.order es → es ≡ []
+no_lines script c es none = go script.order
+  where
+    go : (lines : List (ℕ × ℕ)) → SoloLines encode c script lines es → es ≡ []
+    go [] e = e
+    go (line ∷ lines) e = let k = line_low script.lanes line e.3.request e.3.asks in absurd (omega arith)
 
 module _ {D J : Type 0} (seen : D → DieView) where
   abbrev C : State D J → Core
@@ -216,7 +237,7 @@ module _ {D J : Type 0} (seen : D → DieView) where
           parts = ap (λ (xs : List Event). xs ++ q.events) p.says.parts;
           calls = p.says.calls;
           ending = inl (subst (λ (k : Core). SyncEnds encode k q.events) (script_led o v u script p.events p.says) (q.says.solo (too a p.went)));
-          ends = (refl, q.says.unfailed (subst (λ (k : Core). HoldsNone k Closer) opened (none_holds (core_seen C o v) m.fresh.home)), q.says.all (none_stored (core_seen C o u) p.says.closer), home, q.says.ready.closing.none);
+          ends = (refl, q.says.unfailed (subst (λ (k : Core). HoldsNone k Closer) opened (none_holds (core_seen C o v) m.fresh.home)), q.says.all (none_stored encode (core_seen C o u) p.says.closer), home, q.says.ready.closing.none);
         };
       }
     where
@@ -240,32 +261,10 @@ module _ {D J : Type 0} (seen : D → DieView) where
 
   -- none is asked for: the last event is that of a lane, if there is one
 
-  last_is : (xs ys : List (Entry Event)) (a b : Entry Event) → xs ++ a ∷ [] ≡ ys ++ b ∷ [] → a ≡ b
-  last_is [] [] a b e = cc
-  last_is [] (y ∷ []) a b e = absurd (cc)
-  last_is [] (y ∷ z ∷ ys) a b e = absurd (cc)
-  last_is (x ∷ []) [] a b e = absurd (cc)
-  last_is (x ∷ z ∷ xs) [] a b e = absurd (cc)
-  last_is (x ∷ xs) (y ∷ ys) a b e = let k : xs ++ a ∷ [] ≡ ys ++ b ∷ [] = cc in last_is xs ys a b k
-
-  left_last : (h : List (Entry Event)) (es : List Event) (n lane : ℕ) → EndsInFailure (h ++ map (entry n) (es ++ Leave lane ∷ [])) → ⊥
-  left_last h es n lane f =
-      let is : h ++ map (entry n) (es ++ Leave lane ∷ []) ≡ (h ++ map (entry n) es) ++ entry n (Leave lane) ∷ [] =
-          ap (λ (xs : List (Entry Event)). h ++ xs) (map-append (entry n) es (Leave lane ∷ [])) ∙ sym (append_assoc h (map (entry n) es) (entry n (Leave lane) ∷ [])) in
-      let same : f.1 ≡ entry n (Leave lane) = last_is f.0 (h ++ map (entry n) es) f.1 (entry n (Leave lane)) (sym f.2 ∙ is) in
-      subst (λ (e : Entry Event). IsFailedWrite e.event) same f.3
-
-  no_lines : (script : Script) (c : Core) (es : List Event) → length script.lanes ≡ 0 → SoloLines encode c script script.order es → es ≡ []
-  no_lines script c es none = go script.order
-    where
-      go : (lines : List (ℕ × ℕ)) → SoloLines encode c script lines es → es ≡ []
-      go [] e = e
-      go (line ∷ lines) e = let k = line_low script.lanes line e.3.request e.3.asks in absurd (omega arith)
-
   unfailed : (n : ℕ) (v w : View (Snapshot (State D J)) Event) (o : Snapshot (State D J)) (script : Script) (es : List Event) → n ≡ length script.lanes → v.seen ≡ [] → w.seen ≡ v.seen ++ map (entry v.number) es → HasRunScript seen o v w script es → EndsInFailure w.seen → ⊥
   unfailed zero v w o script es number none made p f =
       let lines = no_lines script _ p.lines (sym number) p.calls in
-      let are : es ≡ [] = p.parts ∙ ((λ i. enters (number (~ i)) ++ (p.lines ++ leaves (number (~ i)))) ∙ (append-nil p.lines ∙ lines)) in
+      let are : es ≡ [] = p.parts ∙ (ap (λ (k : ℕ). enters k ++ (p.lines ++ leaves k)) (sym number) ∙ (append-nil p.lines ∙ lines)) in
       let empty : w.seen ≡ [] = made ∙ (λ i. none i ++ map (entry v.number) (are i)) in
       end_none f.0 f.1 (sym f.2 ∙ empty)
     where

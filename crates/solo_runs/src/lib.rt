@@ -7,7 +7,7 @@
 mod line_calls;
 mod lines;
 mod logs;
-//mod making;
+mod making;
 //mod run;
 
 pub use line_calls::LineCalls;
