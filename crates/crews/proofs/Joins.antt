@@ -1,10 +1,11 @@
 -- One pass more is joined.
-use Rattle.std.proofs.Common.{◌≡◌, ℕ, zero, suc, ◌+◌, ◌-◌, ◌<◌, ◌≤◌, Bool, true, false, cond, List, [], ◌∷◌, ◌++◌, map, length, Some, refl, sym, ap, ◌∙◌, subst, arith, eq-eqb, ne_eqb, length-append}
+use Rattle.std.proofs.Common.{◌≡◌, ℕ, zero, suc, ◌+◌, ◌-◌, ◌<◌, ◌≤◌, Bool, true, false, cond, List, [], ◌∷◌, ◌++◌, map, length, Some, refl, sym, ap, ◌∙◌, subst, arith, eq-eqb, ne_eqb, length-append, get_or-set_other, get_or-set_same}
 use Rattle.std.specs.Prelude.{◌≢◌, slice_index_or, nat_le, if◌then◌else◌}
 use mathlib.Core.Logic.{dite}
 use native.Mathlib.Decide.{ℕ_discrete}
 use Rattle.std.proofs.lemmas.Bool.Decides.{nat_tests}
-use Rattle.std.proofs.lemmas.List.{get_or_push, get_or_append_left}
+use Rattle.std.proofs.lemmas.List.{get_or_push, get_or_append_left, get_or_default}
+use Rattle.std.specs.Prelude.{slice_set}
 use Rattle.std.specs.declared.snapshot.Snapshot.{Snapshot}
 use Rattle.turn_cell.specs.declared.book.Entry.{Entry}
 use Rattle.turn_cell.specs.declared.pass.Pass.{Pass}
@@ -19,7 +20,7 @@ use Rattle.core_state.specs.declared.event.Event.{Event}
 use Rattle.system_state.specs.declared.state.State.{State}
 use Rattle.page_steps.specs.Books.{opening_in}
 use Rattle.page_steps.specs.SystemOf.{System}
-use Rattle.crews.specs.Crews.{numbers_from, Each, HasPass, IsServed, IsKept, IsGathering}
+use Rattle.crews.specs.Crews.{numbers_from, Each, HasPass, IsSamePost, IsServed, IsKept, IsGathering}
 use Rattle.crews.specs.declared.post.Post.{Post}
 
 -- ---- numbers
@@ -103,3 +104,30 @@ module _ {D J : Type 0} (seen : D → DieView) (turn : Turn (System D J) (Snapsh
         (λ i m. let a = g.within i y m in let b = longer_left (view root).seen (view s.pass).seen in omega arith)
         (longer_right (view root).seen (view s.pass).seen) below);
       }
+
+  abbrev pub IsUntouched : List (Post D J) → List (Post D J) → ℕ → Type 0
+  IsUntouched olds posts k = (j : ℕ) (d : Post D J) → k ≤ j → j < length olds → slice_index_or posts j d ≡ slice_index_or olds j d
+
+  abbrev pub AreSame : List (Post D J) → List (Post D J) → Type 0
+  AreSame olds posts = (j : ℕ) (d : Post D J) → j < length olds → IsSamePost (slice_index_or olds j d) (slice_index_or posts j d)
+
+  same_post_on : (a b c : Post D J) → IsSamePost a b → IsSamePost b c → IsSamePost a c
+  same_post_on a b c p q = (q.0 ∙ p.0, q.1 ∙ p.1, q.2 ∙ p.2)
+
+  pub untouched_on : (olds posts : List (Post D J)) (k : ℕ) (next : Post D J) → IsUntouched olds posts k → IsUntouched olds (slice_set posts k next) (k + 1)
+  untouched_on olds posts k next all j d from l = get_or-set_other posts k j next d (λ e. absurd (omega arith)) ∙ all j d (omega arith) l
+
+  pub same_on : (olds posts : List (Post D J)) (k : ℕ) (item next : Post D J) → k < length olds → length posts ≡ length olds → item ≡ slice_index_or posts k item → IsSamePost item next → AreSame olds posts → AreSame olds (slice_set posts k next)
+  same_on olds posts k item next l long is same all j d m = dite (ℕ_discrete j k)
+      (λ e. let within : k < length posts = omega arith in
+      let here : slice_index_or posts j d ≡ item = (λ i. slice_index_or posts (e i) d) ∙ (get_or_default posts k d item within ∙ sym is) in
+      let now : slice_index_or (slice_set posts k next) j d ≡ next = (λ i. slice_index_or (slice_set posts k next) (e i) d) ∙ get_or-set_same posts k next d within in
+      subst (λ (z : Post D J). IsSamePost (slice_index_or olds j d) z) (sym now)
+      (same_post_on (slice_index_or olds j d) item next (subst (λ (z : Post D J). IsSamePost (slice_index_or olds j d) z) here (all j d m)) same))
+      (λ ne. subst (λ (z : Post D J). IsSamePost (slice_index_or olds j d) z) (sym (get_or-set_other posts k j next d ne)) (all j d m))
+
+  pub item_at : (olds posts : List (Post D J)) (k : ℕ) (item : Post D J) → k < length olds → length posts ≡ length olds → item ≡ slice_index_or posts k item → IsUntouched olds posts k → (d : Post D J) → slice_index_or olds k d ≡ item
+  item_at olds posts k item l long is all d = sym (all k d (omega arith) l) ∙ (get_or_default posts k d item (omega arith) ∙ sym is)
+
+  pub gathered_all : (posts : List (Post D J)) (k : ℕ) (root : P) → k ≡ length posts → IsGathering seen turn posts k root → IsGathering seen turn posts (length posts) root
+  gathered_all posts k root is g = subst (λ (n : ℕ). IsGathering seen turn posts n root) is g
