@@ -5,6 +5,7 @@ ghost use Rattle.core_state.specs.declared.actor.Actor.TheVariants.{Lane, Worker
 ghost use Rattle.core_state.specs.declared.event.Event.TheVariants.{Submit, Report};
 ghost use Rattle.core_state.specs.State.{Queued};
 ghost use Rattle.core_state.specs.LaneEvents.{MaySubmit, MayReport, result_of};
+ghost use Rattle.core_state.specs.Coherent.{Coherent};
 ghost use Rattle.core_state.specs.Happens.{HoldsNone};
 ghost use Rattle.system_state.specs.Jobs.{view_of};
 ghost use Rattle.system_state.specs.Cores.{core_of};
@@ -67,8 +68,9 @@ pub fn turn_fetch<D: Die, J: CallJob, K: Desk<System<D, J>>>(
     Ok(answer)
 }
 
-/// A worker hands its call back, with the job: its pages are gathered and its result is there, unless the call has a mark. At `Worn` nothing was
-/// done but that the job is gone, and the worker holds what it held.
+/// A worker hands its call back, with the job: its pages are gathered and its result is there, unless the call has a mark. What the result has to
+/// be follows from the gathered pages, since the core that was seen last is coherent. At `Worn` nothing was done but that the job is gone, and
+/// the worker holds what it held.
 pub fn turn_report<D: Die, J: CallJob, K: Desk<System<D, J>>>(
     desk: &mut K,
     worker: u32,
@@ -79,7 +81,7 @@ pub fn turn_report<D: Die, J: CallJob, K: Desk<System<D, J>>>(
     requires acts { ActsFor (core_of D.seen) (K.opening desk.old) (K.view desk.old) (Worker worker) }
     requires hands { HoldsNone (core_seen (core_of D.seen) (K.opening desk.old) (K.view desk.old)) (Worker worker) }
     requires may { MayReport (core_seen (core_of D.seen) (K.opening desk.old) (K.view desk.old)) worker lane }
-    requires job { SuitsInSpan J.suits job (view_of (core_seen (core_of D.seen) (K.opening desk.old) (K.view desk.old)).names (flight_in (core_seen (core_of D.seen) (K.opening desk.old) (K.view desk.old)) lane (result_of (core_seen (core_of D.seen) (K.opening desk.old) (K.view desk.old)) lane))) }
+    requires job { Coherent (core_seen (core_of D.seen) (K.opening desk.old) (K.view desk.old)) → SuitsInSpan J.suits job (view_of (core_seen (core_of D.seen) (K.opening desk.old) (K.view desk.old)).names (flight_in (core_seen (core_of D.seen) (K.opening desk.old) (K.view desk.old)) lane (result_of (core_seen (core_of D.seen) (K.opening desk.old) (K.view desk.old)) lane))) }
     ensures free { K.is_free desk.new }
     ensures worn { IfErr result (λ x. IsWorn x.count (K.view desk.new)) }
     ensures turn { (K.table desk.new ≡ K.table desk.old) × (K.opening desk.new ≡ K.opening desk.old) }

@@ -5,3 +5,5 @@ pub mod Trying
 pub mod Stepping
 pub mod Looping
 pub mod Callers
+pub use Rattle.event_turns.proofs.Keeping
+pub use Rattle.event_turns.proofs.FlushSteps

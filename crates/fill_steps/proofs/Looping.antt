@@ -1,5 +1,5 @@
 -- All pages of a call, page by page.
-use Rattle.std.proofs.Common.{◌≡◌, ℕ, ◌+◌, ◌*◌, ◌-◌, ◌<◌, ◌≤◌, Bool, true, false, List, [], ◌∷◌, ◌++◌, Option, Some, None, length, refl, sym, ap, ◌∙◌, subst, inl, inr, ⊎_elim, arith, append_assoc}
+use Rattle.std.proofs.Common.{◌≡◌, ℕ, ◌+◌, ◌*◌, ◌-◌, ◌<◌, ◌≤◌, Bool, true, false, List, [], ◌∷◌, ◌++◌, length, Option, Some, None, refl, sym, ap, ◌∙◌, subst, inl, inr, ⊎_elim, arith, append_assoc}
 use Rattle.std.specs.Prelude.{is_none, if◌then◌else◌, Result, Ok, Err}
 use Rattle.std.specs.Result.{IsErr}
 use Rattle.std.specs.declared.snapshot.Snapshot.{Snapshot}
@@ -9,6 +9,7 @@ use Rattle.turn_cell.specs.History.{entry, StartsWith}
 use Rattle.turn_cell.specs.declared.pass.Worn.{Worn}
 use Rattle.flash_die.specs.Dies.{DieView}
 use Rattle.plain_files.specs.History.{Entry}
+use Rattle.plain_files.specs.declared.calls.Request.{Request}
 use Rattle.core_state.specs.declared.actor.Actor.{Actor}
 use Rattle.core_state.specs.declared.event.Event.{Event}
 use Rattle.core_state.specs.State.{Page, Claim, Reach, Running, Flight, Core}
@@ -43,13 +44,18 @@ use Rattle.fill_steps.proofs.Trying.{run_on}
 
 -- ---- over the core alone
 
-calls_on : (es fs : List Event) → calls_of es ≡ [] → calls_of fs ≡ [] → calls_of (es ++ fs) ≡ []
+pub calls_on : (es fs : List Event) → calls_of es ≡ [] → calls_of fs ≡ [] → calls_of (es ++ fs) ≡ []
 calls_on [] fs p q = q
 calls_on (e ∷ es) fs p q = go (entry_of e) p (λ r. calls_on es fs r q)
   where
     go : (o : Option Entry) → and_then o (calls_of es) ≡ [] → (calls_of es ≡ [] → calls_of (es ++ fs) ≡ []) → and_then o (calls_of (es ++ fs)) ≡ []
     go None p k = k p
     go (Some x) p k = absurd (cc)
+
+-- a call is cut short after these steps
+pub cut_off : (encode : Core → ℕ → Page) (c d : Core) (lane : ℕ) (request : Request) (es fs : List Event) → length fs ≤ 1 → Steps (IsStep encode lane request) c es → CoreRun c es d → IsCutOff encode c lane request (es ++ fs)
+cut_off encode c d lane request es fs short steps run =
+    record { most = es; rest = fs; are = refl; short = short; steps = steps; run = subst (CoreRun c es) (leads_to es c d run) run }
 
 turn_kept : (f g : Flight) → IsSameCall f g → IsInTurn f → IsInTurn g
 turn_kept f g s turn =
@@ -116,11 +122,11 @@ module _ {D J : Type 0} (seen : D → DieView) where
   pub going_none : (o : Snapshot (State D J)) (v : View (Snapshot (State D J)) Event) (a : Actor) (lane : ℕ) (job : Job) → IsGathering (core_seen C o v) a lane 0 job → Going o v v a lane 0 job
   going_none o v a lane job p = record { events = []; went = went_none v; says = record { of = tt; open_still = refl; next = tt; call = record { claim = refl; phase = refl }; says = p; run = λ al. refl; solo = λ al turn encode. tt } }
 
-  alone_too : (v u : View (Snapshot (State D J)) Event) (es : List Event) → Went v u es → v.alone ≡ true → u.alone ≡ true
+  pub alone_too : (v u : View (Snapshot (State D J)) Event) (es : List Event) → Went v u es → v.alone ≡ true → u.alone ≡ true
   alone_too v u es w a = ap (λ (z : View (Snapshot (State D J)) Event). z.alone) w.pass ∙ a
 
   -- of events made meanwhile
-  next_later : (o : Snapshot (State D J)) (v u w : View (Snapshot (State D J)) Event) (a : Actor) (lane : ℕ) (es : List Event) → StartsWith w.seen u.seen → w.number ≡ u.number → AreNext seen o v u a lane es → AreNext seen o v w a lane es
+  pub next_later : (o : Snapshot (State D J)) (v u w : View (Snapshot (State D J)) Event) (a : Actor) (lane : ℕ) (es : List Event) → StartsWith w.seen u.seen → w.number ≡ u.number → AreNext seen o v u a lane es → AreNext seen o v w a lane es
   next_later o v u w a lane [] starts number p = tt
   next_later o v u w a lane (e ∷ es) starts number p = ((λ no. found_later (p.0 no)), next_later o v u w a lane es starts number p.1)
     where
@@ -134,7 +140,7 @@ module _ {D J : Type 0} (seen : D → DieView) where
             says = f.says;
           }
 
-  next_earlier : (o : Snapshot (State D J)) (v u w : View (Snapshot (State D J)) Event) (a : Actor) (lane : ℕ) (es : List Event) → StartsWith u.seen v.seen → AreNext seen o u w a lane es → AreNext seen o v w a lane es
+  pub next_earlier : (o : Snapshot (State D J)) (v u w : View (Snapshot (State D J)) Event) (a : Actor) (lane : ℕ) (es : List Event) → StartsWith u.seen v.seen → AreNext seen o u w a lane es → AreNext seen o v w a lane es
   next_earlier o v u w a lane [] starts p = tt
   next_earlier o v u w a lane (e ∷ es) starts p = ((λ no. found_earlier (p.0 no)), next_earlier o v u w a lane es starts p.1)
     where
@@ -204,16 +210,18 @@ module _ {D J : Type 0} (seen : D → DieView) where
       let g = p.says in
       record { events = p.events; went = p.went; says = record { of = g.of; open_still = g.open_still; next = g.next; call = g.call; says = has_span (core_seen C o u) a lane i job g.says l; run = g.run; solo = g.solo } }
 
-  cut_off : (o : Snapshot (State D J)) (v u : View (Snapshot (State D J)) Event) (a : Actor) (lane : ℕ) (P : Core → Type 0) (es fs : List Event) → Gathers seen o v u a lane P es → length fs ≤ 1 → v.alone ≡ true → IsInTurn (call_at (core_seen C o v) lane) → (encode : Core → ℕ → Page) →
-      IsCutOff encode (core_seen C o v) lane (call_at (core_seen C o v) lane).claim.request (es ++ fs)
-  cut_off o v u a lane P es fs p short al turn encode =
-      let c = core_seen C o v in
-      record { most = es; rest = fs; are = refl; short = short; steps = p.solo al turn encode; run = subst (λ (z : Core). CoreRun c es z) (leads_to es c (core_seen C o u) (p.run al)) (p.run al) }
-
   pub on_worn : (o q : Snapshot (State D J)) (v u w : View (Snapshot (State D J)) Event) (a : Actor) (lane i : ℕ) (old new : Job) (x : Worn) (r : Result Bool Worn) → IsErr r → Going o v u a lane i old → Does u w (StepSays seen q u w a lane i new (Err x)) → Does v w (SpanSays seen o v w a lane new r)
   on_worn o q v u w a lane i old new x (Ok y) e p n = absurd (cc)
   on_worn o q v u w a lane i old new x (Err y) e p n =
-      record { events = p.events ++ n.events; went = went_on v u w p.events n.events p.went n.went; says = (of_on a p.events n.events p.says.of n.says.0, calls_on p.events n.events p.says.open_still n.says.1, cut_off o v u a lane (λ d. IsGathering d a lane i old) p.events n.events p.says n.says.2) }
+      record {
+        events = p.events ++ n.events;
+        went = went_on v u w p.events n.events p.went n.went;
+        says = (
+          of_on a p.events n.events p.says.of n.says.0,
+          calls_on p.events n.events p.says.open_still n.says.1,
+          λ al turn encode. cut_off encode (core_seen C o v) (core_seen C o u) lane (call_at (core_seen C o v) lane).claim.request p.events n.events n.says.2 (p.says.solo al turn encode) (p.says.run al),
+        );
+      }
 
   -- ---- alone
 

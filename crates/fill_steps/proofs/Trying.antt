@@ -1,5 +1,5 @@
 -- One page of a call: one turn, or two with the die's work between.
-use Rattle.std.proofs.Common.{◌≡◌, ℕ, ◌<◌, ◌≤◌, Bool, true, false, List, [], ◌∷◌, ◌++◌, Option, Some, None, length, refl, sym, ap, ◌∙◌, subst, append-nil, lit≤, arith}
+use Rattle.std.proofs.Common.{◌≡◌, ℕ, ◌<◌, ◌≤◌, Bool, true, false, List, [], ◌∷◌, ◌++◌, length, Option, Some, None, refl, sym, ap, ◌∙◌, subst, append-nil, arith}
 use Rattle.std.specs.Prelude.{Result, Ok, Err, not}
 use Rattle.std.specs.Result.{IsErr}
 use Rattle.std.specs.declared.snapshot.Snapshot.{Snapshot}
@@ -79,9 +79,6 @@ home_leaves Shared false c a n lane i page es h r p mode missing = failed_leaves
 home_leaves Exclusive false c a n lane i page es h r p mode missing = failed_leaves c a n lane i None h r.out p missing
 home_leaves Exclusive true c a n lane i page es h r p mode missing =
     subst (λ (z : Page). IsBetween false (after c (FillIn a n true)) a lane × IsSameBut c (after c (FillIn a n true)) lane i (Some z)) (sym (r.lent refl mode)) (lent_leaves c a n lane i h r.out p mode)
-
-one_long : (e : Event) → length (e ∷ []) ≤ 1
-one_long e = omega arith
 
 module _ {D J : Type 0} (seen : D → DieView) where
   abbrev C : State D J → Core
@@ -308,10 +305,10 @@ module _ {D J : Type 0} (seen : D → DieView) where
 
   pub page_worn : (o : Snapshot (State D J)) (v w : View (Snapshot (State D J)) Event) (a : Actor) (lane i : ℕ) (page : Page) (r : Result FillStep Worn) → IsErr r → Went v w [] → Does v w (PageSays seen o v w a lane i page r)
   page_worn o v w a lane i page (Ok x) e went = absurd (cc)
-  page_worn o v w a lane i page (Err y) e went = record { events = []; went = went; says = (tt, refl, lit≤ tt) }
+  page_worn o v w a lane i page (Err y) e went = record { events = []; went = went; says = (tt, refl, omega arith) }
 
   pub home_worn : (o : Snapshot (State D J)) (v u w : View (Snapshot (State D J)) Event) (P : Core → List Event → Type 0) (a : Actor) (lane i n : ℕ) (page : Page) (r : Result FillStep Worn) → IsErr r → (t : Turn C o v u P) → t.events ≡ DieOut a n (Fill lane i) ∷ [] → Went u w [] → Does v w (PageSays seen o v w a lane i page r)
   home_worn o v u w P a lane i n page (Ok x) e t is went = absurd (cc)
   home_worn o v u w P a lane i n page (Err y) e t is went =
       let es : t.events ++ [] ≡ DieOut a n (Fill lane i) ∷ [] = append-nil t.events ∙ is in
-      record { events = t.events ++ []; went = went_on v u w t.events [] (went_turn C o v u P t) went; says = (subst (AreOf a) (sym es) (refl, tt), ap calls_of es, subst (λ (xs : List Event). length xs ≤ 1) (sym es) (one_long (DieOut a n (Fill lane i)))) }
+      record { events = t.events ++ []; went = went_on v u w t.events [] (went_turn C o v u P t) went; says = (subst (AreOf a) (sym es) (refl, tt), ap calls_of es, subst (λ (fs : List Event). length fs ≤ 1) (sym es) (omega arith)) }

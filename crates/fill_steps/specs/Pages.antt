@@ -26,10 +26,6 @@ use Rattle.fill_steps.specs.Gathering.{call_at, IsBetween, IsSameBut, IsInTurn, 
 use Rattle.fill_steps.specs.declared.page.FillStep.{FillStep}
 use Rattle.fill_steps.specs.declared.page.FillStep.TheVariants.{Next, Again, Failed, Waits}
 
--- what a step made that a worn turn cut short: at most one event, which is the actor's and ends no call
-abbrev pub IsOneAtMost : Actor → List Event → Type 0
-IsOneAtMost actor es = AreOf actor es × (calls_of es ≡ []) × (length es ≤ 1)
-
 -- the page at this place is the lowest one that the lane's call has still to gather, and the actor may gather it
 pub record IsAtPage (c : Core) (actor : Actor) (lane i : ℕ) (mode : Mode) : Type 0 where
   pub may : MayGather c actor lane i mode
@@ -76,9 +72,10 @@ module _ {D J : Type 0} (seen : D → DieView) where
     pub now : v.alone ≡ true → is_away (core_seen C o w) lane i ≡ false
 
   -- What a try to get the page at place i answers, and its events: the call has it, and it is `page`; it was put in at the call's side, and
-  -- is still to be got; a read failed, the die's count of faults rose, and the lane is marked; its die is out.
+  -- is still to be got; a read failed, the die's count of faults rose, and the lane is marked; its die is out. At Worn at most one event was
+  -- made: a die may still be out.
   abbrev pub PageSays : Snapshot (State D J) → View (Snapshot (State D J)) Event → View (Snapshot (State D J)) Event → Actor → ℕ → ℕ → Page → Result FillStep Worn → List Event → Type 0
-  PageSays o v w actor lane i page (Err x) es = IsOneAtMost actor es
+  PageSays o v w actor lane i page (Err x) es = AreOf actor es × (calls_of es ≡ []) × (length es ≤ 1)
   PageSays o v w actor lane i page (Ok Next) es = Tried o v w actor lane i false (Some page) es
   PageSays o v w actor lane i page (Ok Again) es = Tried o v w actor lane i false None es × IsPutIn o v w lane i
   PageSays o v w actor lane i page (Ok Failed) es = Tried o v w actor lane i true None es × ((die : ℕ) × HasFailed seen o v w die)

@@ -1,5 +1,5 @@
 -- The pages of a call, gathered over a desk. This project's own.
-use Rattle.std.specs.Prelude.{◌≡◌, ℕ, ◌+◌, Bool, true, false, List, [], Result, Ok, Err}
+use Rattle.std.specs.Prelude.{◌≡◌, ℕ, ◌+◌, ◌≤◌, Bool, true, false, List, [], length, Result, Ok, Err}
 use Rattle.std.specs.declared.snapshot.Snapshot.{Snapshot}
 use Rattle.turn_cell.specs.declared.view.View.{View}
 use Rattle.turn_cell.specs.declared.pass.Worn.{Worn}
@@ -20,7 +20,7 @@ use Rattle.desk_turns.specs.Passing.{core_seen}
 use Rattle.event_turns.specs.Cut.{IsCutOff}
 use Rattle.event_turns.specs.Flushing.{HasFailed}
 use Rattle.fill_steps.specs.Gathering.{call_at, IsBetween, IsGathering, HasSpan, IsSameCall, IsInTurn}
-use Rattle.fill_steps.specs.Pages.{AreNext, IsOneAtMost, IsPutIn}
+use Rattle.fill_steps.specs.Pages.{AreNext, IsPutIn}
 use Rattle.fill_steps.specs.declared.page.FillStep.{FillStep}
 use Rattle.fill_steps.specs.declared.page.FillStep.TheVariants.{Next, Again, Failed, Waits}
 
@@ -45,15 +45,16 @@ module _ {D J : Type 0} (seen : D → DieView) where
 
   -- What a step at place i answers, and its events: the job has the page, if the call gathers it; it was put in at the call's side, and is
   -- to be tried again; a read failed, the die's count of faults rose, and the lane is marked; its die is out, and others are to go on first.
+  -- At Worn at most one event was made.
   abbrev pub StepSays : Snapshot (State D J) → View (Snapshot (State D J)) Event → View (Snapshot (State D J)) Event → Actor → ℕ → ℕ → Job → Result FillStep Worn → List Event → Type 0
-  StepSays o v w actor lane i job (Err x) es = IsOneAtMost actor es
+  StepSays o v w actor lane i job (Err x) es = AreOf actor es × (calls_of es ≡ []) × (length es ≤ 1)
   StepSays o v w actor lane i job (Ok Next) es = Gathers o v w actor lane (λ d. IsGathering d actor lane (i + 1) job) es
   StepSays o v w actor lane i job (Ok Again) es = Gathers o v w actor lane (λ d. IsGathering d actor lane i job) es × IsPutIn seen o v w lane i
   StepSays o v w actor lane i job (Ok Failed) es = Gathers o v w actor lane (λ d. IsBetween true d actor lane) es × ((die : ℕ) × HasFailed seen o v w die)
   StepSays o v w actor lane i job (Ok Waits) es = Gathers o v w actor lane (λ d. IsGathering d actor lane i job) es × (es ≡ []) × ((die : ℕ) × (way (core_seen C o w) lane i ≡ Busy die))
 
-  -- What the whole answers, and its events: the job has all pages; or a read failed, the die's count of faults rose, and the lane is marked. At Worn
-  -- the events are the actor's and end no call; where the pass is alone they are those of the call in the run of one thread, cut short.
+  -- What the whole answers, and its events: the job has all pages; or a read failed, the die's count of faults rose, and the lane is marked.
+  -- At Worn the events are the actor's and end no call; where the pass is alone they are those of the call in the run of one thread, cut short.
   abbrev pub SpanSays : Snapshot (State D J) → View (Snapshot (State D J)) Event → View (Snapshot (State D J)) Event → Actor → ℕ → Job → Result Bool Worn → List Event → Type 0
   SpanSays o v w actor lane job (Err x) es =
       AreOf actor es × (calls_of es ≡ [])

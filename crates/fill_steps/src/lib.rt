@@ -8,6 +8,7 @@ mod page;
 mod span;
 mod step;
 
+pub use event_turns::{System, turn_fetch, turn_report};
 pub use page::FillStep;
 pub use span::{fill_span, fill_span_alone};
 pub use step::fill_step;

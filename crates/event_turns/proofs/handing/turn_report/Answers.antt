@@ -51,7 +51,7 @@ report-requires-clause-job g c =
     let own = own_worker (core_seen (core_of g.D.Die.seen) q v) c.args.worker in
     let k = found_at g.D.Die.seen g.J.CallJob.suits s p q v u (Worker c.args.worker) f own in
     let h = coherent_seen g.D.Die.seen g.J.CallJob.suits s p q v u (Worker c.args.worker) f in
-    suits_again g.J.CallJob.suits c.args.job (core_seen (core_of g.D.Die.seen) q v) (core_of g.D.Die.seen s) (Worker c.args.worker) c.args.lane c.requires.may.call (result_of (core_seen (core_of g.D.Die.seen) q v) c.args.lane) (result_of (core_of g.D.Die.seen s) c.args.lane) (again (core_seen (core_of g.D.Die.seen) q v) (core_of g.D.Die.seen s) (Worker c.args.worker) c.args.lane c.requires.may.call k.0 c.requires.may.flies (ap (owner c.args.lane) c.requires.may.runs)) c.requires.may.flies (result_kept (core_seen (core_of g.D.Die.seen) q v) (core_of g.D.Die.seen s) c.args.worker c.args.lane h k.2 k.0 c.requires.may) c.requires.job
+    suits_again g.J.CallJob.suits c.args.job (core_seen (core_of g.D.Die.seen) q v) (core_of g.D.Die.seen s) (Worker c.args.worker) c.args.lane c.requires.may.call (result_of (core_seen (core_of g.D.Die.seen) q v) c.args.lane) (result_of (core_of g.D.Die.seen s) c.args.lane) (again (core_seen (core_of g.D.Die.seen) q v) (core_of g.D.Die.seen s) (Worker c.args.worker) c.args.lane c.requires.may.call k.0 c.requires.may.flies (ap (owner c.args.lane) c.requires.may.runs)) c.requires.may.flies (result_kept (core_seen (core_of g.D.Die.seen) q v) (core_of g.D.Die.seen s) c.args.worker c.args.lane h k.2 k.0 c.requires.may) (c.requires.job h)
 
 pub give-requires-clause-stands : goal.give-requires-clause-stands
 give-requires-clause-stands g c =
