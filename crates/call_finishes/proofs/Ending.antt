@@ -1,12 +1,13 @@
 -- A call that has gathered its pages ends.
-use Rattle.std.proofs.Common.{◌≡◌, ℕ, ◌<◌, Bool, true, false, List, [], ◌∷◌, ◌++◌, Option, Some, None, refl, sym, ap, ◌∙◌, subst, inl, inr, ⊎_elim, append-nil, append_assoc}
-use Rattle.std.specs.Prelude.{◌⊎◌, ◌&&◌, not, is_some, is_none, if◌then◌else◌, Result, Ok, Err, IfOk, IfErr}
+use Rattle.std.proofs.Common.{◌≡◌, ℕ, ◌<◌, Bool, true, false, List, [], ◌∷◌, ◌++◌, Option, Some, None, refl, sym, ap, ◌∙◌, subst, inl, inr, ⊎_elim, append-nil, lit≤}
+use Rattle.std.specs.Prelude.{map, ◌⊎◌, ◌&&◌, not, is_some, is_none, if◌then◌else◌, Result, Ok, Err, IfOk, IfErr}
+use Rattle.std.specs.Result.{IsErr}
 use Rattle.std.specs.declared.snapshot.Snapshot.{Snapshot}
 use Rattle.turn_cell.specs.declared.book.Entry.{Entry}
 use Rattle.turn_cell.specs.declared.view.View.{View}
 use Rattle.turn_cell.specs.declared.pass.Worn.{Worn}
 use Rattle.turn_cell.specs.Events.{events_of}
-use Rattle.turn_cell.specs.History.{StartsWith}
+use Rattle.turn_cell.specs.History.{StartsWith, entry}
 use Rattle.index_lists.proofs.Puts.{put-same}
 use Rattle.flash_die.specs.Dies.{DieView}
 use Rattle.dispatcher.specs.declared.side.Side.TheVariants.{Host}
@@ -27,16 +28,17 @@ use Rattle.core_state.specs.PlainOf.{plain}
 use Rattle.core_state.specs.PageEvents.{flight_at}
 use Rattle.core_state.specs.LaneEvents.{HasGathered, replied}
 use Rattle.core_state.specs.EndEvent.{MayEnd}
+use Rattle.core_state.specs.Coherent.{Coherent}
 use Rattle.core_state.specs.Happens.{HoldsNone, CoreRun, after, after_all}
 use Rattle.core_state.specs.History.{calls_of}
 use Rattle.core_state.proofs.Runs.{leads_to}
 use Rattle.core_history.proofs.Faults.{ended_lanes}
 use Rattle.core_solo.specs.Solo.{Steps, IsStep, IsNext, page_to_gather, end_event}
-use Rattle.core_solo.proofs.Words.{none_or_some, first_found}
 use Rattle.core_solo.proofs.Rests.{ended_is}
 use Rattle.core_solo.proofs.Nexts.{end_next_host}
 use Rattle.system_state.specs.Cores.{core_of}
 use Rattle.system_state.specs.declared.state.State.{State}
+use Rattle.call_job.specs.Ends.{HasRun}
 use Rattle.call_job.specs.Suits.{Suits}
 use Rattle.call_job.specs.declared.job.Job.{Job}
 use Rattle.job_turns.specs.Ended.{CanEnd}
@@ -52,11 +54,14 @@ use Rattle.job_turns.specs.Words.{IsNumbered}
 use Rattle.job_turns.proofs.FlushSteps.{shape_at}
 use Rattle.job_turns.proofs.Keeping.{at_flight, own_flying}
 use Rattle.fill_steps.specs.Gathering.{call_at, told_at, IsBetween}
+use Rattle.fill_steps.specs.Cut.{IsCutOff}
 use Rattle.fill_steps.specs.Spans.{IsSameButPages, Gathers, SpanSays}
 use Rattle.fill_steps.proofs.Calls.{owned_kept}
+use Rattle.fill_steps.proofs.Callers.{none_left, starts_on, failed_still, found_since}
 use Rattle.fill_steps.proofs.Trying.{run_on, still_alone}
-use Rattle.fill_steps.proofs.Looping.{home_again}
+use Rattle.fill_steps.proofs.Looping.{cut_off, home_again}
 use Rattle.call_finishes.specs.Finishing.{IsBegun, EndsIn, FinishSays}
+use Rattle.call_finishes.proofs.Marks.{saw_failure}
 
 -- ---- over the core alone
 
@@ -64,22 +69,8 @@ data_no_sync : (k : Call) → is_data k ≡ true → is_sync k ≡ false
 data_no_sync Sync e = absurd (cc)
 data_no_sync k e = refl
 
--- all is gathered
-none_left : (x : Flight) → HasGathered x → page_to_gather x ≡ None
-none_left x all =
-    ⊎_elim (λ e. e)
-    (λ (s : (i : ℕ) × (page_to_gather x ≡ Some i)).
-    let k = first_found x.claim.reach.pages (λ i. gathers x.claim.request.call x.claim.reach i && is_none (x.gathered i)) s.0 s.1 in
-    absurd (no (gathers x.claim.request.call x.claim.reach s.0) (x.gathered s.0) (all s.0 k.0) k.1))
-    (none_or_some (page_to_gather x))
-  where
-    no : (t : Bool) (o : Option Page) → (t ≡ true → is_some o ≡ true) → (t && is_none o) ≡ true → ⊥
-    no false o k e = absurd (cc)
-    no true None k e = let z = k refl in absurd (cc)
-    no true (Some p) k e = absurd (cc)
-
 -- its lane is free then
-free_ended : (c : Core) (lane : ℕ) (request : Request) (reply : Reply) → HoldsNone c (Lane lane) → (lane < c.shape.lanes) × ((c.lanes lane).stage ≡ Inside) → IsFree (after c (End lane request reply)) lane
+pub free_ended : (c : Core) (lane : ℕ) (request : Request) (reply : Reply) → HoldsNone c (Lane lane) → (lane < c.shape.lanes) × ((c.lanes lane).stage ≡ Inside) → IsFree (after c (End lane request reply)) lane
 free_ended c lane request reply none turn =
     let k = ended_is c lane (flight_at c.calls lane) reply in
     let row : ((after c (End lane request reply)).lanes lane) ≡ replied (c.lanes lane) = ap (λ (f : ℕ → LaneState). f lane) (ended_lanes c lane (flight_at c.calls lane) reply) ∙ put-same c.lanes lane (replied (c.lanes lane)) in
@@ -101,7 +92,15 @@ pub record IsFilled (failed : Bool) (c : Core) (lane : ℕ) (job : Job) : Type 0
   pub held : (call_at c lane).phase ≡ Held
   pub host : (call_at c lane).claim.side ≡ Host
   pub no_sync : is_sync (call_at c lane).claim.request.call ≡ false
-  pub runs_not : is_lambda (call_at c lane).claim.request.call ≡ false
+  pub ran : Coherent c → failed ≡ false → HasRun c (call_at c lane) job
+
+-- The lane's call is a data call that is held at the host, without a mark, and the job is for its request.
+pub record IsAtHost (c : Core) (lane : ℕ) (job : Job) : Type 0 where
+  pub mark : (c.lanes lane).mark ≡ false
+  pub held : (call_at c lane).phase ≡ Held
+  pub host : (call_at c lane).claim.side ≡ Host
+  pub is_on_file : is_data (call_at c lane).claim.request.call ≡ true
+  pub request : job.request ≡ (call_at c lane).claim.request
 
 can_end : (m : Bool) (c : Core) (lane : ℕ) (job : Job) → IsFilled m c lane job → CanEnd c lane job
 can_end m c lane job p =
@@ -112,7 +111,7 @@ can_end m c lane job p =
       suits = p.suits;
       all = λ u. p.all (sym p.between.owned.mark ∙ u);
       synced = λ u s. let z = p.no_sync in absurd (cc);
-      ran = λ u r. let z = p.runs_not in absurd (cc);
+      ran = λ h u. p.ran h (sym p.between.owned.mark ∙ u);
     }
 
 -- the End is the next event of the run of one thread
@@ -132,9 +131,6 @@ end_next encode m c lane request n job p e =
     left true is k = inl is
     left false is k = inr (k refl)
 
-starts_on : (xs ys zs : List (Entry Event)) → StartsWith ys xs → StartsWith zs ys → StartsWith zs xs
-starts_on xs ys zs p q = (p.0 ++ q.0, q.1 ∙ (ap (λ z. z ++ q.0) p.1 ∙ append_assoc xs p.0 q.0))
-
 module _ {D : Type 0} (seen : D → DieView) where
   abbrev C : State D Job → Core
   C = core_of seen
@@ -149,20 +145,22 @@ module _ {D : Type 0} (seen : D → DieView) where
   pub record Filled (o : S) (v u : V) (lane : ℕ) (failed : Bool) (job : Job) (es : List Event) : Type 0 where
     pub of : AreOf (Lane lane) es
     pub open_still : calls_of es ≡ []
+    pub clear : ((core_seen C o v).lanes lane).mark ≡ false
     pub now : IsFilled failed (core_seen C o u) lane job
     pub fault : failed ≡ true → (die : ℕ) × HasFailed seen o v u die
     pub run : v.alone ≡ true → CoreRun (core_seen C o v) es (core_seen C o u)
     pub solo : v.alone ≡ true → (encode : Core → ℕ → Page) → Steps (IsStep encode lane job.request) (core_seen C o v) es
 
-  filled_from : (o : S) (v u : V) (lane : ℕ) (old new : Job) (P : Core → Type 0) (failed : Bool) (es : List Event) → IsBegun (core_seen C o v) lane old → IsSameButPages old new → Gathers seen o v u (Lane lane) lane P es → IsBetween failed (core_seen C o u) (Lane lane) lane →
-      (failed ≡ false → HasGathered (call_at (core_seen C o u) lane)) → Suits new (told_at (core_seen C o u) lane) → (failed ≡ true → (die : ℕ) × HasFailed seen o v u die) → Filled o v u lane failed new es
-  filled_from o v u lane old new P failed es b same g between all suits fault =
+  -- a call that is held at the host, and what gathered its pages, with the job that it has then
+  pub filled_from : (o : S) (v u : V) (lane : ℕ) (job : Job) (P : Core → Type 0) (failed : Bool) (es : List Event) → IsAtHost (core_seen C o v) lane job → Gathers seen o v u (Lane lane) lane P es → IsBetween failed (core_seen C o u) (Lane lane) lane →
+      (failed ≡ false → HasGathered (call_at (core_seen C o u) lane)) → Suits job (told_at (core_seen C o u) lane) → (Coherent (core_seen C o u) → failed ≡ false → HasRun (core_seen C o u) (call_at (core_seen C o u) lane) job) →
+      (failed ≡ true → (die : ℕ) × HasFailed seen o v u die) → Filled o v u lane failed job es
+  filled_from o v u lane job P failed es b g between all suits ran fault =
       let c = core_seen C o v in
-      let d = core_seen C o u in
-      let request : new.request ≡ (call_at c lane).claim.request = ap (λ (j : Job). j.request) same ∙ b.gathering.suits.request in
       record {
         of = g.of;
         open_still = g.open_still;
+        clear = b.mark;
         now = record {
           between = between;
           all = all;
@@ -170,18 +168,27 @@ module _ {D : Type 0} (seen : D → DieView) where
           held = g.call.phase ∙ b.held;
           host = ap (λ (z : Claim). z.side) g.call.claim ∙ b.host;
           no_sync = ap (λ (z : Claim). is_sync z.request.call) g.call.claim ∙ data_no_sync (call_at c lane).claim.request.call b.is_on_file;
-          runs_not = ap (λ (z : Claim). is_lambda z.request.call) g.call.claim ∙ b.runs_not;
+          ran = ran;
         };
         fault = fault;
         run = g.run;
-        solo = λ al encode. subst (λ (r : Request). Steps (IsStep encode lane r) c es) (sym request) (g.solo al (inl (b.held, b.host)) encode);
+        solo = λ al encode. subst (λ (r : Request). Steps (IsStep encode lane r) c es) (sym b.request) (g.solo al (inl (b.held, b.host)) encode);
       }
+
+  filled_by : (o : S) (v u : V) (lane : ℕ) (old new : Job) (P : Core → Type 0) (failed : Bool) (es : List Event) → IsBegun (core_seen C o v) lane old → IsSameButPages old new → Gathers seen o v u (Lane lane) lane P es → IsBetween failed (core_seen C o u) (Lane lane) lane →
+      (failed ≡ false → HasGathered (call_at (core_seen C o u) lane)) → Suits new (told_at (core_seen C o u) lane) → (failed ≡ true → (die : ℕ) × HasFailed seen o v u die) → Filled o v u lane failed new es
+  filled_by o v u lane old new P failed es b same g between all suits fault =
+      let c = core_seen C o v in
+      let none : is_lambda (call_at (core_seen C o u) lane).claim.request.call ≡ false = ap (λ (z : Claim). is_lambda z.request.call) g.call.claim ∙ b.runs_not in
+      filled_from o v u lane new P failed es
+      (record { mark = b.gathering.between.owned.mark; held = b.held; host = b.host; is_on_file = b.is_on_file; request = ap (λ (j : Job). j.request) same ∙ b.gathering.suits.request })
+      g between all suits (λ h f l. absurd (cc)) fault
 
   filled : (o : S) (v u : V) (lane : ℕ) (old new : Job) (good : Bool) (es : List Event) → IsBegun (core_seen C o v) lane old → IsSameButPages old new → (good ≡ false → Suits new (told_at (core_seen C o u) lane)) → SpanSays seen o v u (Lane lane) lane new (Ok good) es → Filled o v u lane (not good) new es
   filled o v u lane old new true es b same left g =
-      filled_from o v u lane old new _ false es b same g g.says.between (λ e. g.says.all) g.says.suits (λ e. absurd (cc))
+      filled_by o v u lane old new _ false es b same g g.says.between (λ e. g.says.all) g.says.suits (λ e. absurd (cc))
   filled o v u lane old new false es b same left g =
-      filled_from o v u lane old new _ true es b same g.0 g.0.says (λ e. absurd (cc)) (left refl) (λ e. g.1)
+      filled_by o v u lane old new _ true es b same g.0 g.0.says (λ e. absurd (cc)) (left refl) (λ e. g.1)
 
   pub does_fill : (o : S) (v u : V) (lane : ℕ) (old new : Job) (good : Bool) → IsBegun (core_seen C o v) lane old → IsSameButPages old new → (good ≡ false → Suits new (told_at (core_seen C o u) lane)) → Does v u (SpanSays seen o v u (Lane lane) lane new (Ok good)) → Does v u (Filled o v u lane (not good) new)
   does_fill o v u lane old new good b same left p = record { events = p.events; went = p.went; says = filled o v u lane old new good p.events b same left p.says }
@@ -201,9 +208,6 @@ module _ {D : Type 0} (seen : D → DieView) where
   none_there o q v u lane m job same p = subst (λ (z : S). HoldsNone (core_seen C z u) (Lane lane)) (sym same) p.says.now.between.none
 
   -- ---- the end
-
-  failed_still : (o : S) (v u w : V) (die : ℕ) → StartsWith w.seen u.seen → HasFailed seen o v u die → HasFailed seen o v w die
-  failed_still o v u w die starts f = record { h = f.h; since = f.since; until = starts_on f.h u.seen w.seen f.until starts; left = f.left; now = f.now; stood = f.stood; rose = f.rose }
 
   ends_in : (o : S) (v u w : V) (lane : ℕ) (m : Bool) (job : Job) (n : Numbered) → ActsFor C o u (Lane lane) → IsFilled m (core_seen C o u) lane job → (t : Turn C o u w (EndSays lane job.request n)) → MayEnd (core_after C o (u.seen ++ t.between)) lane job.request n.reply → EndsIn m lane job.request n (core_after C o (u.seen ++ t.between))
   ends_in o v u w lane m job n acts p t may =
@@ -243,8 +247,9 @@ module _ {D : Type 0} (seen : D → DieView) where
           of = of_on (Lane lane) p.events t.events p.says.of (subst (AreOf (Lane lane)) (sym is) (refl, tt));
           open_still = p.says.open_still;
           failed = m;
-          fault = λ x. let z = p.says.fault x in (z.0, failed_still o v u w z.0 went.seen z.1);
-          found = record { before = found.before; rest = found.rest; since = starts_on v.seen u.seen found.before p.went.seen found.since; seen = found.seen; says = found.says };
+          fault = λ x. let z = p.says.fault x in (z.0, failed_still seen o v u w z.0 went.seen z.1);
+          rose = λ x. saw_failure C o v w lane (u.seen ++ t.between) (starts_on v.seen u.seen (u.seen ++ t.between) p.went.seen (t.between, refl)) (map (entry u.number) t.events, t.seen) t.begins p.says.clear (ends.mark ∙ x);
+          found = found_since seen o v u w e (EndsIn m lane job.request n) p.went.seen found;
           after = subst (λ (z : Core). IsFree z lane) (sym run.1) (free_ended f lane job.request n.reply none (t.coherent.dies.in_turn lane may.call may.flies));
           coherent = coherent_all t.events f (core_seen C o w) t.coherent t.run;
           run = λ a. run_on p.events t.events c d (core_seen C o w) (p.says.run a) (subst (λ (z : Core). CoreRun z t.events (core_seen C o w)) (still_alone seen o u w P t (alone_u a)) t.run);
@@ -273,8 +278,27 @@ module _ {D : Type 0} (seen : D → DieView) where
       record {
         events = p.events ++ [];
         went = went_on v u w p.events [] p.went went;
-        says = (of_on (Lane lane) p.events [] p.says.of tt, ap calls_of (append-nil p.events) ∙ p.says.open_still);
+        says = (
+          of_on (Lane lane) p.events [] p.says.of tt,
+          ap calls_of (append-nil p.events) ∙ p.says.open_still,
+          λ al encode.
+              let c = core_seen C o v in
+              cut_off encode c (core_seen C o u) lane old.request p.events [] (lit≤ tt) (subst (λ (y : Request). Steps (IsStep encode lane y) c p.events) request (p.says.solo al encode)) (p.says.run al),
+        );
       }
+
+  -- where the turn is worn while the pages are gathered
+  pub fill_worn : (o : S) (v u : V) (lane : ℕ) (old new : Job) (x : Worn) (r : Result Numbered Worn) → IsErr r → IsAtHost (core_seen C o v) lane old → Does v u (SpanSays seen o v u (Lane lane) lane new (Err x)) → Does v u (FinishSays seen o v u lane old.request r)
+  fill_worn o v u lane old new x (Ok n) e b p = absurd (cc)
+  fill_worn o v u lane old new x (Err y) e b p =
+      record {
+        events = p.events;
+        went = p.went;
+        says = (p.says.0, p.says.1, λ al encode. subst (λ (y : Request). IsCutOff encode (core_seen C o v) lane y p.events) (sym b.request) (p.says.2 al (inl (b.held, b.host)) encode));
+      }
+
+  pub begun_at_host : (c : Core) (lane : ℕ) (job : Job) → IsBegun c lane job → IsAtHost c lane job
+  begun_at_host c lane job b = record { mark = b.gathering.between.owned.mark; held = b.held; host = b.host; is_on_file = b.is_on_file; request = b.gathering.suits.request }
 
   pub numbered_as : (o q : S) (w : V) (lane : ℕ) (x y : Request) (n : Numbered) → q ≡ o → x ≡ y → IsNumbered q.value.last (calls_of (events_of w.seen)) n.number (record { lane = lane; call = x.call; reply = n.reply }) →
       IsNumbered o.value.last (calls_of (events_of w.seen)) n.number (record { lane = lane; call = y.call; reply = n.reply })

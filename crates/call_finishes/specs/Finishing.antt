@@ -1,8 +1,9 @@
 -- A data call without a function gathers its pages and ends, over a desk. This project's own.
-use Rattle.std.specs.Prelude.{◌≡◌, ℕ, Bool, true, false, if◌then◌else◌, List, [], ◌∷◌, ◌++◌, Result, Ok, Err}
+use Rattle.std.specs.Prelude.{◌≡◌, ℕ, ◌<◌, Bool, true, false, if◌then◌else◌, List, [], ◌∷◌, ◌++◌, Result, Ok, Err}
 use Rattle.std.specs.declared.snapshot.Snapshot.{Snapshot}
 use Rattle.turn_cell.specs.declared.view.View.{View}
 use Rattle.turn_cell.specs.declared.pass.Worn.{Worn}
+use Rattle.turn_cell.specs.Events.{events_of}
 use Rattle.flash_die.specs.Dies.{DieView}
 use Rattle.dispatcher.specs.declared.side.Side.TheVariants.{Host}
 use Rattle.plain_files.specs.declared.calls.Numbered.{Numbered}
@@ -18,7 +19,7 @@ use Rattle.core_state.specs.PlainOf.{plain}
 use Rattle.core_state.specs.EndEvent.{MayEnd}
 use Rattle.core_state.specs.Coherent.{Coherent}
 use Rattle.core_state.specs.Happens.{CoreRun}
-use Rattle.core_state.specs.History.{calls_of}
+use Rattle.core_state.specs.History.{calls_of, failures}
 use Rattle.core_solo.specs.Solo.{SoloCall}
 use Rattle.system_state.specs.Cores.{core_of}
 use Rattle.system_state.specs.declared.state.State.{State}
@@ -28,6 +29,7 @@ use Rattle.job_turns.specs.Flushing.{HasFailed}
 use Rattle.job_turns.specs.Making.{IsFree}
 use Rattle.call_job.specs.declared.job.Job.{Job}
 use Rattle.fill_steps.specs.Gathering.{call_at, IsGathering}
+use Rattle.fill_steps.specs.Cut.{IsCutOff}
 
 -- The lane's call is a `read`, `write`, `append` or `trunc` that is held at the host, with no page gathered and no mark, and this is its
 -- job. The lane holds no die.
@@ -45,6 +47,10 @@ pub record EndsIn (failed : Bool) (lane : ℕ) (request : Request) (n : Numbered
   pub mark : (c.lanes lane).mark ≡ failed
   pub reply_is : n.reply ≡ (if failed then Fault else (answer (plain c) request.call).reply)
 
+-- from one view to a later one a read or write of a die has failed
+abbrev pub SawFailure : {S : Type 0} → View (Snapshot S) Event → View (Snapshot S) Event → Type 0
+SawFailure v w = failures (events_of v.seen) < failures (events_of w.seen)
+
 module _ {D J : Type 0} (seen : D → DieView) where
   abbrev C : State D J → Core
   C = core_of seen
@@ -58,13 +64,16 @@ module _ {D J : Type 0} (seen : D → DieView) where
     pub open_still : calls_of before ≡ []
     pub failed : Bool
     pub fault : failed ≡ true → (die : ℕ) × HasFailed seen o v w die
+    pub rose : failed ≡ true → SawFailure v w
     pub found : FoundAt C o v w (End lane request n.reply) (EndsIn failed lane request n)
     pub after : IsFree (core_seen C o w) lane
     pub coherent : Coherent (core_seen C o w)
     pub run : v.alone ≡ true → CoreRun (core_seen C o v) es (core_seen C o w)
     pub solo : v.alone ≡ true → (encode : Core → ℕ → Page) → SoloCall encode (core_seen C o v) lane request es
 
-  -- it has ended, or at Worn it hasn't
+  -- It has ended, or at Worn it hasn't; where the pass is alone it was cut short then.
   abbrev pub FinishSays : Snapshot (State D J) → View (Snapshot (State D J)) Event → View (Snapshot (State D J)) Event → ℕ → Request → Result Numbered Worn → List Event → Type 0
   FinishSays o v w lane request (Ok n) es = IsFinished o v w lane request n es
-  FinishSays o v w lane request (Err x) es = AreOf (Lane lane) es × (calls_of es ≡ [])
+  FinishSays o v w lane request (Err x) es =
+      AreOf (Lane lane) es × (calls_of es ≡ [])
+      × (v.alone ≡ true → (encode : Core → ℕ → Page) → IsCutOff encode (core_seen C o v) lane request es)

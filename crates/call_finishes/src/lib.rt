@@ -5,4 +5,6 @@
 
 mod finish;
 
+pub use fill_steps::{fill_span, fill_span_alone};
 pub use finish::{finish_call, finish_call_alone};
+pub use job_turns::{System, turn_begin_job, turn_collect_job, turn_end_job, turn_submit};

@@ -4,6 +4,7 @@ pub mod Quick
 pub use Rattle.page_steps.specs.MetaAnswer
 pub use Rattle.page_steps.specs.Making
 pub use Rattle.page_steps.specs.Words
+pub use Rattle.page_steps.specs.Cut
 pub use Rattle.page_steps.specs.LaneTurns
 pub use Rattle.page_steps.specs.MetaTurns
 pub use Rattle.page_steps.specs.PageTurns

@@ -11,19 +11,19 @@ use Rattle.core_state.specs.Reach.{claim_for}
 use Rattle.core_state.specs.LaneEvents.{first_flight}
 use Rattle.system_state.specs.Cores.{core_of}
 use Rattle.system_state.specs.Made.{Made}
-use Rattle.system_state.specs.Stands.{IsStanding}
+use Rattle.system_state.specs.Stands.{IsStanding, Stands}
 use Rattle.system_state.specs.declared.state.State.{State}
-use Rattle.lambda_system.specs.BegunAnswer.{Begun}
-use Rattle.lambda_system.specs.BegunAnswer.TheVariants.{Started}
-use Rattle.lambda_system.specs.Ways.{begin_event}
-use Rattle.lambda_system.specs.Events.{Extends}
+use Rattle.call_turns.specs.BegunAnswer.{Begun}
+use Rattle.call_turns.specs.BegunAnswer.TheVariants.{Started}
+use Rattle.call_turns.specs.Ways.{begin_event}
+use Rattle.desk_turns.specs.Making.{Makes}
 use Rattle.call_job.specs.Prepares.{IsPrepared}
 use Rattle.call_job.specs.Suits.{Suits}
 use Rattle.call_job.specs.declared.job.Job.{Job}
 use Rattle.job_events.specs.Armed.{HasBegun}
 
 module _ {D : Type 0} (seen : D → DieView) (s t : State D Job) where
-  pub standing_after : (e : Event) → IsStanding seen Suits s → Extends seen Suits s e t → IsStanding seen Suits t
+  pub standing_after : (e : Event) → IsStanding seen Suits s → Makes (Stands seen Suits) s (e ∷ []) t → IsStanding seen Suits t
   standing_after e st goes_on = record { o = st.o; h = st.h ++ entry 0 e ∷ []; stands = goes_on st.o st.h 0 st.stands }
 
   pub has_begun : (lane : ℕ) (request : Request) (x : Begun) (side : Side) (span : ℕ) (job : Job) → IsPrepared request job → Made seen Suits s (begin_event lane request x) t → x ≡ Started side span → HasBegun (core_of seen t) lane job

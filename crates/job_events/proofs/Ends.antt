@@ -157,8 +157,8 @@ ran_there job o g = go job.ran g
     go None q = absurd (cc)
     go (Some r) q = refl
 
-pub run_told : (c : Core) (lane : ℕ) (job : Job) → CanEnd c lane job → (c.lanes lane).mark ≡ false → is_lambda job.request.call ≡ true → is_some job.ran ≡ true
-run_told c lane job e mark l = ran_there job (outcome_of (plain c) e.call.claim.request.call) (e.ran mark (ap (λ (q : Request). is_lambda q.call) (sym e.suits.request) ∙ l))
+pub run_told : (c : Core) (lane : ℕ) (job : Job) → Coherent c → CanEnd c lane job → (c.lanes lane).mark ≡ false → is_lambda job.request.call ≡ true → is_some job.ran ≡ true
+run_told c lane job h e mark l = ran_there job (outcome_of (plain c) e.call.claim.request.call) (e.ran h mark (ap (λ (q : Request). is_lambda q.call) (sym e.suits.request) ∙ l))
 
 -- ---- a reported call
 
@@ -171,7 +171,7 @@ can_collect {D} seen s lane job st a reported suits = record {
   suits = suit;
   all = λ m. st.stands.kept.reported.all lane a.call a.flies (kept_reported a.call.phase rep) m;
   synced = λ m sync. absurd (let z = (sync_is_held c lane a.call h a.flies sync).1 in a.not_held z);
-  ran = λ m l. has_result a.call.phase rep (h.gathered.results lane a.call a.flies m) suit.result;
+  ran = λ k m l. has_result a.call.phase rep (h.gathered.results lane a.call a.flies m) suit.result;
 }
   where
     c : Core

@@ -7,8 +7,8 @@ use Rattle.core_state.specs.State.{Held, Flight, Core}
 use Rattle.core_state.specs.PageEvents.{flight_at}
 use Rattle.system_state.specs.Jobs.{view_of}
 use Rattle.system_state.specs.declared.state.Function.{Function}
-use Rattle.lambda_system.specs.BegunAnswer.{Begun}
-use Rattle.lambda_system.specs.BegunAnswer.TheVariants.{Ended, Started}
+use Rattle.call_turns.specs.BegunAnswer.{Begun}
+use Rattle.call_turns.specs.BegunAnswer.TheVariants.{Ended, Started}
 use Rattle.call_checks.specs.Checks.{function_by}
 use Rattle.call_job.specs.Prepares.{IsPrepared}
 use Rattle.call_job.specs.Suits.{Suits}

@@ -4,6 +4,7 @@ use Rattle.page_base.specs.Drive.{meta_pages}
 use Rattle.plain_files.specs.declared.calls.Request.{Request}
 use Rattle.core_ends.specs.Stores.{StoresNothing}
 use Rattle.core_state.specs.State.{Flight, Core}
+use Rattle.core_state.specs.Coherent.{Coherent}
 use Rattle.core_state.specs.Reach.{is_sync}
 use Rattle.core_state.specs.PageEvents.{flight_at}
 use Rattle.core_state.specs.LaneEvents.{HasGathered}
@@ -18,7 +19,8 @@ use Rattle.call_job.specs.declared.job.Job.{Job}
 use Rattle.call_job.specs.declared.storing.Finished.{Finished}
 
 -- The lane's call may end, with its job: it is held at the host, or reported. Where the lane has no mark, it has gathered its pages, a
--- `sync` has written all pages of the meta data, and the function of a call has run.
+-- `sync` has written all pages of the meta data, and the function of a call has run: whoever ran it over its pages knows that of a coherent
+-- core.
 pub record CanEnd (c : Core) (lane : ℕ) (job : Job) : Type 0 where
   pub call : Flight
   pub flies : c.calls lane ≡ Some call
@@ -26,7 +28,7 @@ pub record CanEnd (c : Core) (lane : ℕ) (job : Job) : Type 0 where
   pub suits : Suits job (view_of c.names call)
   pub all : (c.lanes lane).mark ≡ false → HasGathered call
   pub synced : (c.lanes lane).mark ≡ false → is_sync call.claim.request.call ≡ true → call.meta ≡ meta_pages c.shape.blocks
-  pub ran : (c.lanes lane).mark ≡ false → HasRun c call job
+  pub ran : Coherent c → (c.lanes lane).mark ≡ false → HasRun c call job
 
 -- A call may end so: with this reply, which is a `fault` with a mark and Answer's without one, with this length of its file and these pages
 -- of its span where it stored, and with its gathered pages where it didn't.

@@ -1,2 +1,11 @@
 pub mod Armed
 pub mod Ended
+pub use Rattle.call_turns.specs.Beginning
+pub use Rattle.call_turns.specs.BegunAnswer
+pub use Rattle.call_turns.specs.Books
+pub use Rattle.call_turns.specs.Flushing
+pub use Rattle.call_turns.specs.Making
+pub use Rattle.call_turns.specs.SystemOf
+pub use Rattle.call_turns.specs.Ways
+pub use Rattle.call_turns.specs.Words
+pub use Rattle.call_turns.specs.JobTurns

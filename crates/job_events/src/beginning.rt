@@ -1,18 +1,18 @@
 //! A call begins, and its buffers are told what it meets.
-ghost use Rattle.std.specs.Prelude.{◌≡◌, ◌≤◌, ◌-◌, ◌^◌, ◌⊎◌, ℕ, IfOk, IfErr, Err, true, false, option_map, option_copied};
+ghost use Rattle.std.specs.Prelude.{◌≡◌, ◌≤◌, ◌-◌, ◌^◌, ◌⊎◌, ℕ, [], ◌∷◌, IfOk, IfErr, Err, true, false, option_map, option_copied};
 ghost use Rattle.core_state.specs.declared.actor.Actor.TheVariants.{Lane};
 ghost use Rattle.core_state.specs.Reach.{is_data, is_sync};
 ghost use Rattle.core_state.specs.LaneEvents.{IsIdle};
 ghost use Rattle.core_state.specs.Happens.{HoldsNone};
 ghost use Rattle.system_state.specs.Cores.{core_of};
 ghost use Rattle.system_state.specs.Made.{Made};
-ghost use Rattle.system_state.specs.Stands.{IsStanding};
+ghost use Rattle.system_state.specs.Stands.{IsStanding, Stands};
 ghost use Rattle.system_state.specs.declared.not_yet.NotYet.TheVariants.{NoRoom};
 ghost use Rattle.call_checks.specs.Checks.{row_for, len_or, function_by};
-ghost use Rattle.lambda_system.specs.Begun.{side_of};
-ghost use Rattle.lambda_system.specs.BegunAnswer.TheVariants.{Started};
-ghost use Rattle.lambda_system.specs.Ways.{begin_way, way_of, begin_event, IsNext};
-ghost use Rattle.lambda_system.specs.Events.{Extends};
+ghost use Rattle.call_turns.specs.Begun.{side_of};
+ghost use Rattle.call_turns.specs.BegunAnswer.TheVariants.{Started};
+ghost use Rattle.call_turns.specs.Ways.{begin_way, way_of, begin_event, IsNext};
+ghost use Rattle.desk_turns.specs.Making.{Makes};
 ghost use Rattle.call_job.specs.Prepares.{IsPrepared};
 ghost use Rattle.call_job.specs.Suits.{Suits};
 ghost use Rattle.job_events.specs.Armed.{code_row, HasBegun, HasJob, IsArmed};
@@ -20,12 +20,12 @@ ghost use Rattle.job_events.specs.Armed.{code_row, HasBegun, HasJob, IsArmed};
 use crate::tables::len_for;
 use call_checks::function_named;
 use call_job::{Job, Prepared};
+use call_turns::{Begun, try_begin};
 use dispatcher::Side;
 use flash_die::Die;
-use lambda_system::{Begun, NotYet, try_begin};
 use plain_files::{Call, Word};
 use sbpf_insn::Code;
-use system_state::{Function, State};
+use system_state::{Function, NotYet, State};
 
 /// The code of a function of this name, if it is there.
 fn code_named<'a>(functions: &'a [Function], name: &Word) -> Option<&'a Code>
@@ -93,7 +93,7 @@ pub fn begin_job<D: Die>(
     ensures way { way_of result ≡ begin_way (core_of D.seen state.old) prepared.old.job.request }
     ensures number { IfOk result (λ x. IsNext state.old.last x) }
     ensures made { IfOk result (λ x. Made D.seen Suits state.old (begin_event lane prepared.old.job.request x) state.new) }
-    ensures stands { IfOk result (λ x. Extends D.seen Suits state.old (begin_event lane prepared.old.job.request x) state.new) }
+    ensures stands { IfOk result (λ x. Makes (Stands D.seen Suits) state.old (begin_event lane prepared.old.job.request x ∷ []) state.new) }
     ensures armed { IfOk result (λ x. IsArmed (core_of D.seen state.new) lane prepared.old.job prepared.new.job x) }
     ensures picked { (used need : ℕ) → result ≡ Err (NoRoom used need) → prepared.new.picked ≡ side_of (core_of D.seen state.old) prepared.old.job.request }
     ensures same { IfErr result (λ y. (state.new ≡ state.old) × (prepared.new.job ≡ prepared.old.job)) }

@@ -1,5 +1,5 @@
 //! A call ends, with what its job gives.
-ghost use Rattle.std.specs.Prelude.{◌≡◌, ◌≤◌, ◌<◌, ◌+◌, ◌-◌, ◌^◌, ℕ, List, length, get_or, set, IfOk, IfErr, None, true, false};
+ghost use Rattle.std.specs.Prelude.{◌≡◌, ◌≤◌, ◌<◌, ◌+◌, ◌-◌, ◌^◌, ℕ, List, [], ◌∷◌, length, get_or, set, IfOk, IfErr, None, true, false};
 ghost use Rattle.coherence.specs.Paired.{flags_at};
 ghost use Rattle.core_state.specs.declared.actor.Actor.TheVariants.{Lane};
 ghost use Rattle.core_state.specs.declared.event.Event.TheVariants.{End};
@@ -10,21 +10,20 @@ ghost use Rattle.core_state.specs.EndEvent.{is_reported};
 ghost use Rattle.core_state.specs.Happens.{HoldsNone};
 ghost use Rattle.system_state.specs.Cores.{core_of};
 ghost use Rattle.system_state.specs.Made.{Made};
-ghost use Rattle.system_state.specs.Stands.{IsStanding};
+ghost use Rattle.system_state.specs.Stands.{IsStanding, Stands};
 ghost use Rattle.system_state.specs.declared.not_yet.NotYet.TheVariants.{Unfinished};
 ghost use Rattle.system_ends.specs.Landed.{IsAway, reply_at};
-ghost use Rattle.lambda_system.specs.Events.{Extends};
+ghost use Rattle.desk_turns.specs.Making.{Makes};
 ghost use Rattle.call_job.specs.Suits.{Suits};
 ghost use Rattle.job_events.specs.Ended.{CanEnd, EndsWith, HasTables};
 
 use crate::tables::{has_mark, in_use, is_sync, len_for};
 use call_job::{Finished, Job};
 use flash_die::Die;
-use lambda_system::NotYet;
 use plain_files::{Numbered, Reply};
 use std::snapshot::Snapshot;
 use system_ends::{Ending, end_call, jobs_held, take_reported};
-use system_state::State;
+use system_state::{NotYet, State};
 
 /// A call that stored nothing ends with this reply.
 fn replied(reply: Reply) -> Finished
@@ -71,7 +70,7 @@ fn end_with<D: Die>(
     ensures number { result.number ≡ state.old.last + 1 }
     ensures reply { result.reply ≡ reply_at (core_of D.seen state.old) lane job.old.request }
     ensures made { Made D.seen Suits (record state.old { jobs = jobs.value }) (End lane job.old.request result.reply) state.new }
-    ensures stands { Extends D.seen Suits (record state.old { jobs = jobs.value }) (End lane job.old.request result.reply) state.new }
+    ensures stands { Makes (Stands D.seen Suits) (record state.old { jobs = jobs.value }) (End lane job.old.request result.reply ∷ []) state.new }
     ensures request { job.new.request ≡ job.old.request }
 {
     let Finished { ending, len } = finish_call(state, lane, job);
@@ -90,7 +89,7 @@ pub fn end_job<D: Die>(state: &mut State<D, Job>, lane: u32, job: &mut Job) -> N
     ensures number { result.number ≡ state.old.last + 1 }
     ensures reply { result.reply ≡ reply_at (core_of D.seen state.old) lane job.old.request }
     ensures made { Made D.seen Suits state.old (End lane job.old.request result.reply) state.new }
-    ensures stands { Extends D.seen Suits state.old (End lane job.old.request result.reply) state.new }
+    ensures stands { Makes (Stands D.seen Suits) state.old (End lane job.old.request result.reply ∷ []) state.new }
     ensures request { job.new.request ≡ job.old.request }
 {
     let jobs = jobs_held(state, lane);
@@ -113,7 +112,7 @@ pub fn try_collect_job<D: Die>(
     ensures reply { IfOk result (λ x. x.0.reply ≡ reply_at (core_of D.seen state.old) lane x.1.request) }
     ensures request { IfOk result (λ x. x.1.request ≡ (flight_at (core_of D.seen state.old).calls lane).claim.request) }
     ensures made { IfOk result (λ x. Made D.seen Suits state.old (End lane x.1.request x.0.reply) state.new) }
-    ensures stands { IfOk result (λ x. Extends D.seen Suits state.old (End lane x.1.request x.0.reply) state.new) }
+    ensures stands { IfOk result (λ x. Makes (Stands D.seen Suits) state.old (End lane x.1.request x.0.reply ∷ []) state.new) }
     ensures unfinished { IfErr result (λ y. (is_reported (flight_at (core_of D.seen state.old).calls lane).phase ≡ false) × (y ≡ Unfinished lane)) }
     ensures same { IfErr result (λ y. state.new ≡ state.old) }
 {

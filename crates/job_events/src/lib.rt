@@ -6,4 +6,5 @@ mod ending;
 mod tables;
 
 pub use beginning::begin_job;
+pub use call_turns::{Begun, System, turn_submit};
 pub use ending::{end_job, try_collect_job};

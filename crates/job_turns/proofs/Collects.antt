@@ -34,13 +34,13 @@ use Rattle.desk_turns.specs.Passing.{May, ActsFor, core_seen, Turn}
 use Rattle.desk_turns.proofs.Holding.{shapes_kept, coherent_all}
 use Rattle.desk_turns.proofs.Turning.{is_after}
 use Rattle.desk_turns.proofs.Went.{if_err}
-use Rattle.call_turns.specs.Words.{IsNumbered}
-use Rattle.call_turns.specs.SystemOf.{System}
-use Rattle.call_turns.proofs.FlushTurning.{if_ok}
-use Rattle.call_turns.proofs.Keeping.{at_flight}
-use Rattle.call_turns.proofs.Numbering.{numbered}
-use Rattle.call_turns.proofs.Taking.{O, V, Known, Found, DidAt, stood, coherent_seen, more, one_at, none_at}
-use Rattle.call_turns.proofs.Waiting.{StillSees, SeenAgain, sees_found, seen_again, still_away}
+use Rattle.job_events.specs.Words.{IsNumbered}
+use Rattle.job_events.specs.SystemOf.{System}
+use Rattle.job_events.proofs.FlushTurning.{if_ok}
+use Rattle.job_events.proofs.Keeping.{at_flight}
+use Rattle.job_events.proofs.Numbering.{numbered}
+use Rattle.job_events.proofs.Taking.{O, V, Known, Found, DidAt, stood, coherent_seen, more, one_at, none_at}
+use Rattle.job_events.proofs.Waiting.{StillSees, SeenAgain, sees_found, seen_again, still_away}
 use Rattle.call_job.specs.Suits.{Suits}
 use Rattle.call_job.specs.declared.job.Job.{Job}
 use Rattle.job_turns.specs.Collecting.{StillWaits, CollectSays}

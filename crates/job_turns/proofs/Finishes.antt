@@ -35,10 +35,10 @@ use Rattle.system_state.specs.Cores.{core_of}
 use Rattle.system_state.specs.Jobs.{view_of}
 use Rattle.system_state.specs.declared.state.State.{State}
 use Rattle.desk_turns.specs.Passing.{Turn}
-use Rattle.call_turns.specs.Words.{IsNumbered}
-use Rattle.call_turns.proofs.FlushTurning.{if_ok}
-use Rattle.call_turns.proofs.Keeping.{Again, again, at_flight}
-use Rattle.call_turns.proofs.Numbering.{numbered}
+use Rattle.job_events.specs.Words.{IsNumbered}
+use Rattle.job_events.proofs.FlushTurning.{if_ok}
+use Rattle.job_events.proofs.Keeping.{Again, again, at_flight}
+use Rattle.job_events.proofs.Numbering.{numbered}
 use Rattle.call_job.specs.Views.{TellsSame}
 use Rattle.call_job.specs.declared.job.Job.{Job}
 use Rattle.call_job.proofs.Kept.{suits_kept}
@@ -110,9 +110,9 @@ ends_kept c c2 lane job h h2 same shape held e =
       suits = suits_kept job (view_of c.names e.call) (view_of c2.names g.call) (tells_again c c2 (Lane lane) lane e.call g) e.suits;
       all = λ unmarked. gathered_again c c2 (Lane lane) lane e.call g (e.all (sym g.mark ∙ unmarked));
       synced = λ unmarked sync. g.same.meta ∙ (e.synced (sym g.mark ∙ unmarked) (subst (λ (x : Claim). is_sync x.request.call ≡ true) g.same.claim sync) ∙ sym (ap (λ (x : Shape). meta_pages x.blocks) shape));
-      ran = λ unmarked runs.
+      ran = λ k unmarked runs.
           let here = sym g.mark ∙ unmarked in
-          e.ran here (subst (λ (x : Claim). is_lambda x.request.call ≡ true) g.same.claim runs) ∙ ap Some (sym (outcome_again c c2 (Lane lane) lane e.call g h h2 e.flies (e.all here)));
+          e.ran h here (subst (λ (x : Claim). is_lambda x.request.call ≡ true) g.same.claim runs) ∙ ap Some (sym (outcome_again c c2 (Lane lane) lane e.call g h h2 e.flies (e.all here)));
     }
 
 module _ {D : Type 0} (seen : D → DieView) where

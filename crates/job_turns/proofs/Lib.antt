@@ -1,5 +1,5 @@
 pub mod Starts
 pub mod Finishes
 pub mod Collects
-pub use Rattle.call_turns.proofs.FlushSteps
-pub use Rattle.call_turns.proofs.Keeping
+pub use Rattle.job_events.proofs.FlushSteps
+pub use Rattle.job_events.proofs.Keeping

@@ -21,13 +21,13 @@ use Rattle.system_state.specs.Made.{Made}
 use Rattle.system_state.specs.Stands.{Stands}
 use Rattle.system_state.specs.declared.not_yet.NotYet.{NotYet}
 use Rattle.system_state.specs.declared.state.State.{State}
-use Rattle.call_turns.specs.BegunAnswer.{Begun}
-use Rattle.call_turns.specs.BegunAnswer.TheVariants.{Ended, Started}
-use Rattle.call_turns.specs.Ways.{begin_event}
+use Rattle.job_events.specs.BegunAnswer.{Begun}
+use Rattle.job_events.specs.BegunAnswer.TheVariants.{Ended, Started}
+use Rattle.job_events.specs.Ways.{begin_event}
 use Rattle.desk_turns.specs.Passing.{core_seen}
 use Rattle.desk_turns.proofs.Turning.{seen_core}
-use Rattle.call_turns.proofs.Taking.{DidAt}
-use Rattle.call_turns.proofs.Keeping.{at_flight}
+use Rattle.job_events.proofs.Taking.{DidAt}
+use Rattle.job_events.proofs.Keeping.{at_flight}
 use Rattle.call_job.specs.Suits.{Suits}
 use Rattle.call_job.specs.declared.job.Job.{Job}
 use Rattle.job_events.specs.Armed.{HasJob, IsArmed}

@@ -12,7 +12,7 @@ use Rattle.core_state.specs.PageEvents.{flight_at}
 use Rattle.system_state.specs.declared.not_yet.NotYet.{NotYet}
 use Rattle.system_state.specs.declared.not_yet.NotYet.TheVariants.{Unfinished}
 use Rattle.system_ends.specs.Landed.{reply_at}
-use Rattle.call_turns.specs.Words.{IsAnswered}
+use Rattle.job_events.specs.Words.{IsAnswered}
 use Rattle.call_job.specs.declared.job.Job.{Job}
 
 -- From one core to a later one the lane has its dies, its row, and what it sees of its call, whoever has the call.

@@ -6,7 +6,7 @@ use Rattle.core_state.specs.declared.event.Event.{Event}
 use Rattle.core_state.specs.declared.event.Event.TheVariants.{End}
 use Rattle.core_state.specs.State.{Core}
 use Rattle.system_ends.specs.Landed.{reply_at}
-use Rattle.call_turns.specs.Words.{IsAnswered}
+use Rattle.job_events.specs.Words.{IsAnswered}
 
 -- the call of the lane ended in core c: with the reply that it has there, and with the next number
 pub record EndSays (lane : ℕ) (request : Request) (n : Numbered) (c : Core) (es : List Event) : Type 0 where

@@ -3,7 +3,8 @@ pub mod Finishing
 pub mod Collecting
 pub use Rattle.job_events.specs.Armed
 pub use Rattle.job_events.specs.Ended
-pub use Rattle.call_turns.specs.Books
-pub use Rattle.call_turns.specs.Flushing
-pub use Rattle.call_turns.specs.Making
-pub use Rattle.call_turns.specs.Words
+pub use Rattle.job_events.specs.Books
+pub use Rattle.job_events.specs.Flushing
+pub use Rattle.job_events.specs.Making
+pub use Rattle.job_events.specs.Words
+pub use Rattle.job_events.specs.JobTurns

@@ -3,8 +3,8 @@ use Rattle.std.specs.Prelude.{◌≡◌, ℕ, false, Some, None, Result, Ok, Err
 use Rattle.core_state.specs.State.{Held, Flight, Core}
 use Rattle.system_state.specs.Jobs.{view_of}
 use Rattle.system_state.specs.declared.not_yet.NotYet.{NotYet}
-use Rattle.call_turns.specs.BegunAnswer.{Begun}
-use Rattle.call_turns.specs.BegunAnswer.TheVariants.{Ended, Started}
+use Rattle.job_events.specs.BegunAnswer.{Begun}
+use Rattle.job_events.specs.BegunAnswer.TheVariants.{Ended, Started}
 use Rattle.call_job.specs.Suits.{Suits}
 use Rattle.call_job.specs.declared.job.Job.{Job}
 

@@ -9,17 +9,16 @@ ghost use Rattle.core_state.specs.LaneEvents.{IsIdle};
 ghost use Rattle.core_state.specs.Happens.{HoldsNone};
 ghost use Rattle.core_state.specs.History.{calls_of};
 ghost use Rattle.system_state.specs.Cores.{core_of};
-ghost use Rattle.call_turns.specs.BegunAnswer.TheVariants.{Ended};
+ghost use Rattle.job_events.specs.BegunAnswer.TheVariants.{Ended};
 ghost use Rattle.desk_turns.specs.Passing.{ActsFor, core_seen, Turn, Went};
-ghost use Rattle.call_turns.specs.Words.{StillHolds, IsNumbered, IsSmall};
-ghost use Rattle.call_turns.specs.Beginning.{BeginSays};
+ghost use Rattle.job_events.specs.Words.{StillHolds, IsNumbered, IsSmall};
+ghost use Rattle.job_events.specs.Beginning.{BeginSays};
 ghost use Rattle.call_job.specs.Prepares.{IsPrepared};
 ghost use Rattle.job_turns.specs.Starting.{StartSays};
 
 use call_job::{Job, Prepared};
-use call_turns::{Begun, System};
 use flash_die::Die;
-use job_events::begin_job;
+use job_events::{Begun, System, begin_job};
 use system_state::NotYet;
 use turn_cell::{Desk, Worn};
 

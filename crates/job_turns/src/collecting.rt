@@ -9,14 +9,13 @@ ghost use Rattle.core_state.specs.History.{calls_of};
 ghost use Rattle.system_state.specs.Cores.{core_of};
 ghost use Rattle.system_ends.specs.Landed.{IsAway};
 ghost use Rattle.desk_turns.specs.Passing.{ActsFor, core_seen, Turn, Went};
-ghost use Rattle.call_turns.specs.Words.{IsNumbered, IsSmall};
+ghost use Rattle.job_events.specs.Words.{IsNumbered, IsSmall};
 ghost use Rattle.call_job.specs.declared.job.Job.{Job};
 ghost use Rattle.job_turns.specs.Collecting.{StillWaits, CollectSays};
 
 use call_job::Job;
-use call_turns::System;
 use flash_die::Die;
-use job_events::try_collect_job;
+use job_events::{System, try_collect_job};
 use plain_files::Numbered;
 use system_state::NotYet;
 use turn_cell::{Desk, Worn};

@@ -10,14 +10,13 @@ ghost use Rattle.core_state.specs.Happens.{HoldsNone};
 ghost use Rattle.core_state.specs.History.{calls_of};
 ghost use Rattle.system_state.specs.Cores.{core_of};
 ghost use Rattle.desk_turns.specs.Passing.{ActsFor, core_seen, Turn, Went};
-ghost use Rattle.call_turns.specs.Words.{StillHolds, IsNumbered, IsSmall};
+ghost use Rattle.job_events.specs.Words.{StillHolds, IsNumbered, IsSmall};
 ghost use Rattle.job_events.specs.Ended.{CanEnd};
 ghost use Rattle.job_turns.specs.Finishing.{EndSays};
 
 use call_job::Job;
-use call_turns::System;
 use flash_die::Die;
-use job_events::end_job;
+use job_events::{System, end_job};
 use plain_files::Numbered;
 use turn_cell::{Desk, Worn};
 

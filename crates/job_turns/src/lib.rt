@@ -6,6 +6,6 @@ mod collecting;
 mod ending;
 
 pub use beginning::turn_begin_job;
-pub use call_turns::System;
 pub use collecting::turn_collect_job;
 pub use ending::turn_end_job;
+pub use job_events::{System, turn_submit};

@@ -12,18 +12,19 @@ use Rattle.core_state.specs.declared.event.Event.{Event}
 use Rattle.core_state.specs.declared.event.Event.TheVariants.{FlushOut, FlushIn}
 use Rattle.core_state.specs.State.{Page, Shape, Flight, Core}
 use Rattle.core_state.specs.LaneEvents.{IsIdle}
-use Rattle.core_state.specs.Happens.{after}
+use Rattle.core_state.specs.Happens.{CoreRun, after}
 use Rattle.core_solo.specs.Solo.{room_event}
 use Rattle.system_state.specs.Cores.{core_of}
 use Rattle.system_state.specs.declared.errand.Errand.{Errand}
 use Rattle.system_state.specs.declared.state.State.{State}
 use Rattle.desk_turns.specs.Passing.{ActsFor, core_after, core_seen, Turn, Went, Does, SameCalls, SameLane}
+use Rattle.desk_turns.proofs.Holding.{coherent_all}
 use Rattle.desk_turns.proofs.Later.{own_idle, keeps_on, keeps_held, same_calls}
 use Rattle.desk_turns.proofs.Went.{went_on, went_turn, found_turn}
 use Rattle.event_turns.specs.Flushing.{Flushes, IsBetweenFlushes, MayFlushNow, HomeSays}
 use Rattle.event_turns.specs.FlushedAnswer.{Flushed}
 use Rattle.event_turns.specs.FlushedAnswer.TheVariants.{Wrote, Failed as FlushFailed, Nothing as NothingUnclean, Busy}
-use Rattle.event_turns.proofs.FlushSteps.{leaves, shape_at, may_at, sent_keeps, sent_flushes, failed_on, quiet_step}
+use Rattle.event_turns.proofs.FlushSteps.{run_on, alone_at, leaves, shape_at, may_at, sent_keeps, sent_flushes, failed_on, quiet_step}
 use Rattle.page_steps.specs.Room.{event_of, RoomTurn}
 use Rattle.page_steps.specs.Making.{IsIdleWith, IsFree, IsForRoom, IsWhole, RoomSays, made_by}
 use Rattle.page_steps.specs.declared.making.Made.{Made}
@@ -105,8 +106,11 @@ module _ {D J : Type 0} (seen : D → DieView) where
           are = t.says.are;
           whole = moved_whole lane step;
           found = found_turn C o v u u P e (IsForRoom lane side e) t t.says.are t.says.next ([], sym (append-nil u.seen)) (number_on v u t.events went);
+          first = λ a. subst (IsForRoom lane side e) (alone_at seen o v u P t a) t.says.next;
           after = subst (λ (d : Core). IsFree d lane) left (moved_free c lane step idle);
           same = keeps_on c0 c (core_seen C o u) (Lane lane) held (subst (λ (d : Core). SameLane c d lane) left (moved_same c lane step));
+          coherent = coherent_all t.events c (core_seen C o u) t.coherent t.run;
+          run = λ a. subst (λ (d : Core). CoreRun d t.events (core_seen C o u)) (alone_at seen o v u P t a) t.run;
         };
       }
 
@@ -131,6 +135,12 @@ module _ {D J : Type 0} (seen : D → DieView) where
   pub sent_ready : (o : Snapshot (State D J)) (v u : View (Snapshot (State D J)) Event) (lane : ℕ) (side : Side) (page : Page) (e : Errand D) → ActsFor C o v (Lane lane) → IsFree (core_seen C o v) lane → Turn C o v u (RoomTurn (Lane lane) side page (Sent e)) → Flushes false (core_seen C o u) (Lane lane)
   sent_ready o v u lane side page e acts free t = sent_flushes seen o v u (RoomTurn (Lane lane) side page (Sent e)) (Lane lane) e acts (free_may (core_seen C o v) lane free) t t.says.are
 
+  -- where the pass is alone, both turns of a flush
+  run_home : (o : Snapshot (State D J)) (v u w : View (Snapshot (State D J)) Event) (P : Core → List Event → Type 0) (fs : List Event) → (t : Turn C o v u P) → (u.alone ≡ true → CoreRun (core_seen C o u) fs (core_seen C o w)) → v.alone ≡ true → CoreRun (core_seen C o v) (t.events ++ fs) (core_seen C o w)
+  run_home o v u w P fs t run a =
+      run_on t.events fs (core_seen C o v) (core_seen C o u) (core_seen C o w) (subst (λ (d : Core). CoreRun d t.events (core_seen C o u)) (alone_at seen o v u P t a) t.run)
+      (run (ap (λ (z : View (Snapshot (State D J)) Event). z.alone) t.pass ∙ a))
+
   came_home : (o : Snapshot (State D J)) (v u w : View (Snapshot (State D J)) Event) (lane : ℕ) (side : Side) (page : Page) (e : Errand D) (r : Flushed) (fs : List Event) → ActsFor C o v (Lane lane) → IsFree (core_seen C o v) lane → (t : Turn C o v u (RoomTurn (Lane lane) side page (Sent e))) → Went u w fs →
       HomeSays seen o u w (Lane lane) e.number e.subject (Ok r) fs → RoomSays seen o v w lane side (Ok (made_by r)) (t.events ++ fs)
   came_home o v u w lane side page e (Wrote b) fs acts free t went p =
@@ -144,8 +154,11 @@ module _ {D J : Type 0} (seen : D → DieView) where
         are = λ i. t.says.are i ++ p.1.are i;
         whole = (p.1.left, refl);
         found = found_turn C o v u w P out (IsForRoom lane side out) t t.says.are t.says.next went.seen (number_on u w fs went ∙ number_on v u t.events (went_turn C o v u P t));
+        first = λ a. subst (IsForRoom lane side out) (alone_at seen o v u P t a) t.says.next;
         after = idle_back false c0 (core_seen C o w) lane (shape_at seen o w.seen v.seen) free.idle p.1.after same;
         same = same;
+        coherent = p.1.coherent;
+        run = run_home o v u w P fs t p.1.run;
       }
   came_home o v u w lane side page e (FlushFailed b) fs acts free t went p =
       let P = RoomTurn (Lane lane) side page (Sent e) in
@@ -160,8 +173,11 @@ module _ {D J : Type 0} (seen : D → DieView) where
         are = λ i. t.says.are i ++ p.1.are i;
         found = found_turn C o v u w P out (IsForRoom lane side out) t t.says.are t.says.next went.seen (number_on u w fs went ∙ number_on v u t.events went_out);
         failed = failed_on seen o v u w e.number went_out.seen (p.1.failed refl);
+        first = λ a. subst (IsForRoom lane side out) (alone_at seen o v u P t a) t.says.next;
         after = idle_back true c0 (core_seen C o w) lane (shape_at seen o w.seen v.seen) free.idle p.1.after same;
         same = same;
+        coherent = p.1.coherent;
+        run = run_home o v u w P fs t p.1.run;
       }
   came_home o v u w lane side page e NothingUnclean fs acts free t went p = absurd p
   came_home o v u w lane side page e (Busy n) fs acts free t went p = absurd p

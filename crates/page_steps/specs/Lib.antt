@@ -2,6 +2,7 @@ pub mod Room
 pub mod Making
 pub use Rattle.event_turns.specs.declared.metas.MetaOut as MetaAnswer
 pub use Rattle.event_turns.specs.Words
+pub use Rattle.event_turns.specs.Cut
 pub use Rattle.event_turns.specs.LaneTurns
 pub use Rattle.event_turns.specs.MetaTurns
 pub use Rattle.event_turns.specs.PageTurns

@@ -10,7 +10,8 @@ use Rattle.core_state.specs.declared.event.Event.{Event}
 use Rattle.core_state.specs.declared.event.Event.TheVariants.{Evict, Demote, FlushOut, FlushIn}
 use Rattle.core_state.specs.State.{Page, Core}
 use Rattle.core_state.specs.LaneEvents.{IsIdle}
-use Rattle.core_state.specs.Happens.{HoldsNone}
+use Rattle.core_state.specs.Coherent.{Coherent}
+use Rattle.core_state.specs.Happens.{HoldsNone, CoreRun}
 use Rattle.core_solo.specs.Solo.{room_event}
 use Rattle.system_state.specs.Cores.{core_of}
 use Rattle.system_state.specs.declared.state.State.{State}
@@ -47,15 +48,19 @@ IsWhole lane (FlushOut actor die block) rest = (left : Page) × (rest ≡ FlushI
 IsWhole lane e rest = ⊥
 
 module _ {D J : Type 0} (seen : D → DieView) where
-  -- the first possible event for room was made, with all of the flush that it may have begun
+  -- The first possible event for room was made, with all of the flush that it may have begun. Where the pass is alone, that leads from the
+  -- core as it was seen first to the one that is seen then.
   pub record MadeRoom (o : Snapshot (State D J)) (v w : View (Snapshot (State D J)) Event) (lane : ℕ) (side : Side) (es : List Event) : Type 0 where
     pub event : Event
     pub rest : List Event
     pub are : es ≡ event ∷ rest
     pub whole : IsWhole lane event rest
     pub found : FoundAt (core_of seen) o v w event (IsForRoom lane side event)
+    pub first : v.alone ≡ true → IsForRoom lane side event (core_seen (core_of seen) o v)
     pub after : IsFree (core_seen (core_of seen) o w) lane
     pub same : SameLane (core_seen (core_of seen) o v) (core_seen (core_of seen) o w) lane
+    pub coherent : Coherent (core_seen (core_of seen) o w)
+    pub run : v.alone ≡ true → CoreRun (core_seen (core_of seen) o v) es (core_seen (core_of seen) o w)
 
   -- the first possible one was a flush, which failed: the die's count of faults rose, and the lane is marked
   pub record FailedRoom (o : Snapshot (State D J)) (v w : View (Snapshot (State D J)) Event) (lane : ℕ) (side : Side) (es : List Event) : Type 0 where
@@ -64,9 +69,12 @@ module _ {D J : Type 0} (seen : D → DieView) where
     pub left : Page
     pub are : es ≡ FlushOut (Lane lane) die block ∷ FlushIn (Lane lane) die false left ∷ []
     pub found : FoundAt (core_of seen) o v w (FlushOut (Lane lane) die block) (IsForRoom lane side (FlushOut (Lane lane) die block))
+    pub first : v.alone ≡ true → IsForRoom lane side (FlushOut (Lane lane) die block) (core_seen (core_of seen) o v)
     pub failed : HasFailed seen o v w die
     pub after : IsMarked (core_seen (core_of seen) o w) lane
     pub same : SameLane (core_seen (core_of seen) o v) (core_seen (core_of seen) o w) lane
+    pub coherent : Coherent (core_seen (core_of seen) o w)
+    pub run : v.alone ≡ true → CoreRun (core_seen (core_of seen) o v) es (core_seen (core_of seen) o w)
 
   -- none was possible, in the core as it was last seen
   pub record NoRoomYet (o : Snapshot (State D J)) (v w : View (Snapshot (State D J)) Event) (lane : ℕ) (side : Side) (es : List Event) : Type 0 where

@@ -1,6 +1,7 @@
 pub mod Frees
 pub mod Ending
 pub use Rattle.call_turns.proofs.Syncs
+pub use Rattle.call_turns.proofs.Wanting
 pub use Rattle.call_turns.proofs.Errands
 pub use Rattle.call_turns.proofs.Keeping
 pub use Rattle.call_turns.proofs.Nexts

@@ -2,6 +2,7 @@ pub mod Calls
 pub use Rattle.call_turns.specs.Beginning
 pub use Rattle.call_turns.specs.Ending
 pub use Rattle.call_turns.specs.Words
+pub use Rattle.call_turns.specs.Cut
 pub use Rattle.call_turns.specs.MetaTurns
 pub use Rattle.call_turns.specs.Flushing
 pub use Rattle.call_turns.specs.BegunAnswer

@@ -2,9 +2,11 @@ use Rattle.std.proofs.Common.{sym, ap, subst, inl}
 use Rattle.std.specs.Prelude.{not}
 use Rattle.turn_cell.specs.Desks.{view_alone, opening_alone}
 use Rattle.call_job.specs.declared.job.Job.{Job}
+use Rattle.desk_turns.specs.Passing.{core_seen}
+use Rattle.system_state.specs.Cores.{core_of}
 use Rattle.job_turns.specs.Books.{opening_in}
 use Rattle.job_turns.specs.Words.{IsSmall}
-use Rattle.call_finishes.proofs.Ending.{does_fill, ends_there, held_there, none_there, finish_any, numbered_as, home_after}
+use Rattle.call_finishes.proofs.Ending.{does_fill, ends_there, held_there, none_there, finish_any, fill_worn, begun_at_host, numbered_as, home_after}
 use Rattle.call_finishes.proofs.finish.finish_call_alone.Goals as goal
 
 pub turn_end_job-requires-clause-hands : goal.turn_end_job-requires-clause-hands
@@ -69,3 +71,10 @@ returns-clause-home g c =
     let good = c.in_ok-fill_span_alone.field-0 in
     let p = does_fill g.D.Die.seen o v u c.args.lane c.args.job.now c.fill_span_alone.new.job good c.requires.begun e.same c.in_ok-fill_span_alone.ensures.left c.in_ok-fill_span_alone.ensures.did in
     home_after g.D.Die.seen o v (view_alone c.turn_end_job.new.desk) c.args.lane c.args.job.now.request c.turn_end_job.result c.requires.free.2.0 c.requires.home (finish_any g.D.Die.seen o q v u (view_alone c.turn_end_job.new.desk) c.args.lane (not good) c.args.job.now c.fill_span_alone.new.job c.turn_end_job.result e.turn.1 (ap (λ (j : Job). j.request) e.same) (inl c.requires.free.2.0) p c.turn_end_job.ensures.did c.turn_end_job.ensures.went)
+
+pub returns-in_err-fill_span_alone-clause-did : goal.returns-in_err-fill_span_alone-clause-did
+returns-in_err-fill_span_alone-clause-did g c =
+    let o = opening_alone opening_in c.args.alone.now in
+    let v = view_alone c.args.alone.now in
+    let u = view_alone c.fill_span_alone.new.alone in
+    fill_worn g.D.Die.seen o v u c.args.lane c.args.job.now c.fill_span_alone.new.job c.in_err-fill_span_alone.field-0.0 c.from_residual.result c.from_residual.ensures.0 (begun_at_host (core_seen (core_of g.D.Die.seen) o v) c.args.lane c.args.job.now c.requires.begun) c.in_err-fill_span_alone.ensures.did

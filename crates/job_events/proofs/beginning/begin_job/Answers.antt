@@ -1,4 +1,4 @@
-use Rattle.lambda_system.specs.Ways.{begin_event}
+use Rattle.call_turns.specs.Ways.{begin_event}
 use Rattle.job_events.proofs.Begins.{standing_after, has_begun}
 use Rattle.job_events.proofs.beginning.begin_job.Goals as goal
 

@@ -1,10 +1,11 @@
-use Rattle.std.proofs.Common.{◌∙◌, ap, subst}
+use Rattle.std.proofs.Common.{◌∙◌, ◌∷◌, [], ap, subst}
 use Rattle.plain_files.specs.declared.calls.Request.{Request}
 use Rattle.core_state.specs.declared.event.Event.TheVariants.{End}
 use Rattle.system_state.specs.Cores.{core_of}
 use Rattle.system_state.specs.Made.{Made}
+use Rattle.system_state.specs.Stands.{Stands}
 use Rattle.system_ends.specs.Landed.{reply_at}
-use Rattle.lambda_system.specs.Events.{Extends}
+use Rattle.desk_turns.specs.Making.{Makes}
 use Rattle.call_job.specs.Suits.{Suits}
 use Rattle.system_state.proofs.Standing.{stands_coherent}
 use Rattle.job_events.proofs.Ends.{tables_there}
@@ -29,4 +30,4 @@ returns-clause-made g c =
 
 pub returns-clause-stands : goal.returns-clause-stands
 returns-clause-stands g c =
-    subst (λ (q : Request). Extends g.D.Die.seen Suits (record c.args.state.now { jobs = c.args.jobs.value }) (End c.args.lane q c.end_call.result.reply) c.end_call.new.state) c.finish_call-ending.ensures.request c.end_call.ensures.stands
+    subst (λ (q : Request). Makes (Stands g.D.Die.seen Suits) (record c.args.state.now { jobs = c.args.jobs.value }) (End c.args.lane q c.end_call.result.reply ∷ []) c.end_call.new.state) c.finish_call-ending.ensures.request c.end_call.ensures.stands

@@ -27,7 +27,7 @@ finish-requires g c =
     record {
       ready = e.suits.ready;
       «data» = data_told (core_of g.D.Die.seen c.args.state.now) c.args.lane c.args.job.now c.requires.coherent e (sym c.is_sync.ensures ∙ c.if-is_sync.false);
-      ran = run_told (core_of g.D.Die.seen c.args.state.now) c.args.lane c.args.job.now e mark;
+      ran = run_told (core_of g.D.Die.seen c.args.state.now) c.args.lane c.args.job.now c.requires.coherent e mark;
       len = c.len_for-len.ensures.most;
       in_use = c.in_use-pages.ensures.most;
     }
@@ -43,6 +43,6 @@ returns g c =
     let many = subst (λ (n : ℕ). n ≤ length c.finish.new.self.pages.items) (ap (λ (k : Reach). k.pages) e.suits.reach) r.many in
     record {
       ends = data_ends core c.args.lane c.args.job.now c.requires.coherent e mark c.finish.result c.finish.new.self.pages.items
-          (r.ends core c.args.lane e.call c.requires.coherent e.flies (e.all mark) e.suits (e.ran mark) len used refl) many (λ l. r.used core e.call e.suits.request l (e.ran mark l));
+          (r.ends core c.args.lane e.call c.requires.coherent e.flies (e.all mark) e.suits (e.ran c.requires.coherent mark) len used refl) many (λ l. r.used core e.call e.suits.request l (e.ran c.requires.coherent mark l));
       request = r.request;
     }

@@ -4,12 +4,12 @@ use Rattle.system_state.specs.Cores.{core_of}
 use Rattle.desk_turns.specs.Passing.{core_seen}
 use Rattle.desk_turns.proofs.Later.{none_kept, own_idle}
 use Rattle.desk_turns.proofs.Went.{worn_went, if_err}
-use Rattle.call_turns.proofs.Taking.{Found, stood, found_at, gave, turned, worn_holds}
-use Rattle.call_turns.proofs.Keeping.{idle_kept}
-use Rattle.call_turns.proofs.Numbering.{last_fits, begun_fit}
+use Rattle.job_events.proofs.Taking.{Found, stood, found_at, gave, turned, worn_holds}
+use Rattle.job_events.proofs.Keeping.{idle_kept}
+use Rattle.job_events.proofs.Numbering.{last_fits, begun_fit}
 use Rattle.std.specs.Result.{IsErr}
-use Rattle.call_turns.specs.Beginning.{BeginSays}
-use Rattle.call_turns.proofs.Begins.{begin_did, begin_numbered}
+use Rattle.job_events.specs.Beginning.{BeginSays}
+use Rattle.job_events.proofs.TurnBegins.{begin_did, begin_numbered}
 use Rattle.core_state.specs.State.{Core}
 use Rattle.call_job.specs.Suits.{Suits}
 use Rattle.job_turns.specs.Starting.{StartSays}

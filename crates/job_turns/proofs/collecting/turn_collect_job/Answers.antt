@@ -3,8 +3,8 @@ use Rattle.core_state.specs.declared.actor.Actor.TheVariants.{Lane}
 use Rattle.system_state.specs.Cores.{core_of}
 use Rattle.desk_turns.specs.Passing.{core_seen}
 use Rattle.desk_turns.proofs.Went.{worn_went, if_err}
-use Rattle.call_turns.proofs.Taking.{Found, stood, gave, turned}
-use Rattle.call_turns.proofs.Numbering.{last_fits, versions_fit}
+use Rattle.job_events.proofs.Taking.{Found, stood, gave, turned}
+use Rattle.job_events.proofs.Numbering.{last_fits, versions_fit}
 use Rattle.std.specs.Result.{IsErr}
 use Rattle.call_job.specs.Suits.{Suits}
 use Rattle.job_turns.specs.Collecting.{CollectSays}

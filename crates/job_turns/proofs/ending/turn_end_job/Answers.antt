@@ -4,8 +4,8 @@ use Rattle.system_state.specs.Cores.{core_of}
 use Rattle.desk_turns.specs.Passing.{core_seen}
 use Rattle.desk_turns.proofs.Later.{none_kept, own_held}
 use Rattle.desk_turns.proofs.Went.{worn_went, if_err}
-use Rattle.call_turns.proofs.Taking.{Found, stood, coherent_seen, found_at, one_at, gave, turned, worn_holds}
-use Rattle.call_turns.proofs.Numbering.{last_fits, versions_fit}
+use Rattle.job_events.proofs.Taking.{Found, stood, coherent_seen, found_at, one_at, gave, turned, worn_holds}
+use Rattle.job_events.proofs.Numbering.{last_fits, versions_fit}
 use Rattle.core_state.specs.declared.event.Event.TheVariants.{End}
 use Rattle.std.specs.Result.{IsErr}
 use Rattle.call_job.specs.Suits.{Suits}
