@@ -96,7 +96,7 @@ last_is (x ∷ xs) (y ∷ ys) a b e = let k : xs ++ a ∷ [] ≡ ys ++ b ∷ [] 
 left_last : (h : List (Entry Event)) (es : List Event) (n lane : ℕ) → EndsInFailure (h ++ map (entry n) (es ++ Leave lane ∷ [])) → ⊥
 left_last h es n lane f =
     let is : h ++ map (entry n) (es ++ Leave lane ∷ []) ≡ (h ++ map (entry n) es) ++ entry n (Leave lane) ∷ [] =
-        ap (λ (xs : List (Entry Event)). h ++ xs) (map-append (entry n) es (Leave lane ∷ [])) ∙ sym (append_assoc h (map (entry n) es) (entry n (Leave lane) ∷ [])) in
+    ap (λ (xs : List (Entry Event)). h ++ xs) (map-append (entry n) es (Leave lane ∷ [])) ∙ sym (append_assoc h (map (entry n) es) (entry n (Leave lane) ∷ [])) in
     let same : f.1 ≡ entry n (Leave lane) = last_is f.0 (h ++ map (entry n) es) f.1 (entry n (Leave lane)) (sym f.2 ∙ is) in
     subst (λ (e : Entry Event). IsFailedWrite e.event) same f.3
 
@@ -290,8 +290,8 @@ module _ {D J : Type 0} (seen : D → DieView) where
   unfailed (suc n) v w o script es number none made p f =
       let more : leaves (suc n) ≡ leaves n ++ Leave n ∷ [] = ap leaves (suc_one n) ∙ map-range_with_len_more (λ lane. Leave lane) 0 n n (omega arith) in
       let are : es ≡ (enters (length script.lanes) ++ (p.lines ++ leaves n)) ++ Leave n ∷ [] =
-          p.parts ∙ (ap (λ (xs : List Event). enters (length script.lanes) ++ (p.lines ++ xs)) (ap leaves (sym number) ∙ more)
-          ∙ (ap (λ (xs : List Event). enters (length script.lanes) ++ xs) (sym (append_assoc p.lines (leaves n) (Leave n ∷ []))) ∙ sym (append_assoc (enters (length script.lanes)) (p.lines ++ leaves n) (Leave n ∷ [])))) in
+      p.parts ∙ (ap (λ (xs : List Event). enters (length script.lanes) ++ (p.lines ++ xs)) (ap leaves (sym number) ∙ more)
+      ∙ (ap (λ (xs : List Event). enters (length script.lanes) ++ xs) (sym (append_assoc p.lines (leaves n) (Leave n ∷ []))) ∙ sym (append_assoc (enters (length script.lanes)) (p.lines ++ leaves n) (Leave n ∷ [])))) in
       left_last v.seen (enters (length script.lanes) ++ (p.lines ++ leaves n)) v.number n
       (subst EndsInFailure (made ∙ ap (λ (xs : List Event). v.seen ++ map (entry v.number) xs) are) f)
     where
