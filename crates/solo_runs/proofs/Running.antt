@@ -15,11 +15,12 @@ use Rattle.flash_die.specs.Dies.{DieView}
 use Rattle.page_base.specs.Drive.{meta_pages}
 use Rattle.core_state.specs.declared.actor.Actor.TheVariants.{Closer}
 use Rattle.core_state.specs.declared.event.Event.{Event}
-use Rattle.core_state.specs.declared.event.Event.TheVariants.{Enter, Leave}
+use Rattle.core_state.specs.declared.event.Event.TheVariants.{Enter, Leave, Quick, Skip, End}
 use Rattle.core_state.specs.State.{Shape, LaneState, Core}
 use Rattle.core_state.specs.Coherent.{Coherent}
-use Rattle.core_state.specs.Happens.{CoreRun, HoldsNone, after_all}
-use Rattle.core_state.specs.History.{calls_of}
+use Rattle.plain_files.specs.History.{Entry as CallEntry}
+use Rattle.core_state.specs.Happens.{CoreRun, HoldsNone, actor_of, after_all}
+use Rattle.core_state.specs.History.{entry_of, and_then, calls_of}
 use Rattle.core_state.proofs.Runs.{leads_to}
 use Rattle.core_stores.proofs.Folds.{run_keeps}
 use Rattle.core_solo.specs.Solo.{Script, SoloLines, SoloRun, SoloEnd, SyncEnds, SyncFails, enters, leaves}
@@ -35,6 +36,7 @@ use Rattle.core_closing.proofs.Keeps.{none_yet as none_stored}
 use Rattle.system_state.specs.Cores.{core_of}
 use Rattle.system_state.specs.declared.state.State.{State}
 use Rattle.system_metas.specs.Encode.{encode}
+use Rattle.desk_turns.specs.Making.{AreOf}
 use Rattle.desk_turns.specs.Passing.{core_seen, Went, Does}
 use Rattle.desk_turns.proofs.Turning.{events_more}
 use Rattle.desk_turns.proofs.Went.{went_on, went_none}
@@ -45,7 +47,7 @@ use Rattle.settling.specs.declared.last_sync.Settled.TheVariants.{NotAsked, Done
 use Rattle.solo_lanes.specs.Lanes.{AreHome, AreMade, HaveEntered, HaveLeft, IsUnentered, MayAllLeave, EnterSays, LeaveSays}
 use Rattle.solo_runs.specs.Lines.{IsBetween, HaveMade, LinesSay}
 use Rattle.solo_runs.specs.Run.{MayRun, HasRunScript, ScriptSays, EndsAs, HasRun, RunSays}
-use Rattle.solo_runs.proofs.Lining.{run_on, lines_long}
+use Rattle.solo_runs.proofs.Lining.{run_on, calls_seen, lines_long}
 
 -- ---- lanes come and go
 
@@ -66,6 +68,17 @@ leaves_long n = length-map-range_with_len (λ lane. Leave lane) 0 n
 none_holds : (c : Core) → AreHome c → HoldsNone c Closer
 none_holds c home die out e = let h = home die in absurd (cc)
 
+-- the closer ends no call
+closer_event : (e : Event) → actor_of e ≡ Closer → entry_of e ≡ None
+closer_event (Quick lane request reply) p = absurd (cc)
+closer_event (Skip lane request fault) p = absurd (cc)
+closer_event (End lane request reply) p = absurd (cc)
+closer_event _ p = refl
+
+closer_tells : (es : List Event) → AreOf Closer es → calls_of es ≡ []
+closer_tells [] of = refl
+closer_tells (e ∷ es) of = ap (λ (o : Option CallEntry). and_then o (calls_of es)) (closer_event e of.0) ∙ closer_tells es of.1
+
 -- no lane has entered
 pub unentered : (script : Script) (c : Core) → MayRun script c → IsUnentered c
 unentered script c m = record { outside = λ l low. ap (λ (w : LaneState). w.stage) (m.new l); still = m.fresh.still; home = m.fresh.home }
@@ -83,7 +96,7 @@ last_is (x ∷ xs) (y ∷ ys) a b e = let k : xs ++ a ∷ [] ≡ ys ++ b ∷ [] 
 left_last : (h : List (Entry Event)) (es : List Event) (n lane : ℕ) → EndsInFailure (h ++ map (entry n) (es ++ Leave lane ∷ [])) → ⊥
 left_last h es n lane f =
     let is : h ++ map (entry n) (es ++ Leave lane ∷ []) ≡ (h ++ map (entry n) es) ++ entry n (Leave lane) ∷ [] =
-        ap (λ (xs : List (Entry Event)). h ++ xs) (map-append (entry n) es (Leave lane ∷ [])) ∙ sym (append_assoc h (map (entry n) es) (entry n (Leave lane) ∷ [])) in
+    ap (λ (xs : List (Entry Event)). h ++ xs) (map-append (entry n) es (Leave lane ∷ [])) ∙ sym (append_assoc h (map (entry n) es) (entry n (Leave lane) ∷ [])) in
     let same : f.1 ≡ entry n (Leave lane) = last_is f.0 (h ++ map (entry n) es) f.1 (entry n (Leave lane)) (sym f.2 ∙ is) in
     subst (λ (e : Entry Event). IsFailedWrite e.event) same f.3
 
@@ -97,6 +110,9 @@ no_lines script c es none = go script.order
 module _ {D J : Type 0} (seen : D → DieView) where
   abbrev C : State D J → Core
   C = core_of seen
+
+  calls_stay : (v w : View (Snapshot (State D J)) Event) (es : List Event) → v.alone ≡ true → Went v w es → calls_of es ≡ [] → calls_of (events_of w.seen) ≡ calls_of (events_of v.seen)
+  calls_stay v w es a went none = calls_seen seen v w es a went ∙ (ap (λ (xs : List CallEntry). calls_of (events_of v.seen) ++ xs) none ∙ append-nil (calls_of (events_of v.seen)))
 
   -- before the first line
   pub first_between : (o : Snapshot (State D J)) (v u : View (Snapshot (State D J)) Event) (script : Script) (lanes : ℕ) → MayRun script (core_seen C o v) → Does v u (HaveEntered seen o v u lanes) → IsBetween script [] (core_seen C o u)
@@ -274,8 +290,8 @@ module _ {D J : Type 0} (seen : D → DieView) where
   unfailed (suc n) v w o script es number none made p f =
       let more : leaves (suc n) ≡ leaves n ++ Leave n ∷ [] = ap leaves (suc_one n) ∙ map-range_with_len_more (λ lane. Leave lane) 0 n n (omega arith) in
       let are : es ≡ (enters (length script.lanes) ++ (p.lines ++ leaves n)) ++ Leave n ∷ [] =
-          p.parts ∙ (ap (λ (xs : List Event). enters (length script.lanes) ++ (p.lines ++ xs)) (ap leaves (sym number) ∙ more)
-          ∙ (ap (λ (xs : List Event). enters (length script.lanes) ++ xs) (sym (append_assoc p.lines (leaves n) (Leave n ∷ []))) ∙ sym (append_assoc (enters (length script.lanes)) (p.lines ++ leaves n) (Leave n ∷ [])))) in
+      p.parts ∙ (ap (λ (xs : List Event). enters (length script.lanes) ++ (p.lines ++ xs)) (ap leaves (sym number) ∙ more)
+      ∙ (ap (λ (xs : List Event). enters (length script.lanes) ++ xs) (sym (append_assoc p.lines (leaves n) (Leave n ∷ []))) ∙ sym (append_assoc (enters (length script.lanes)) (p.lines ++ leaves n) (Leave n ∷ [])))) in
       left_last v.seen (enters (length script.lanes) ++ (p.lines ++ leaves n)) v.number n
       (subst EndsInFailure (made ∙ ap (λ (xs : List Event). v.seen ++ map (entry v.number) xs) are) f)
     where
@@ -321,3 +337,14 @@ module _ {D J : Type 0} (seen : D → DieView) where
   pub run_worn : (o : Snapshot (State D J)) (v w : View (Snapshot (State D J)) Event) (script : Script) (settles : Bool) (x : Worn) (r : Result Settled Worn) → IsErr r → Does v w (ScriptSays seen o v w script (Err x)) → Does v w (RunSays seen o v w script settles r)
   run_worn o v w script settles x (Ok y) e p = absurd (cc)
   run_worn o v w script settles x (Err y) e p = record { events = p.events; went = p.went; says = let k = p.says in omega arith }
+
+  -- ---- calls that have ended
+
+  pub left_calls : (o : Snapshot (State D J)) (v w : View (Snapshot (State D J)) Event) (lanes : ℕ) → v.alone ≡ true → Does v w (HaveLeft seen o v w lanes) → calls_of (events_of w.seen) ≡ calls_of (events_of v.seen)
+  left_calls o v w lanes a p = calls_stay v w p.events a p.went (ap calls_of p.says.made.are ∙ leaves_tell lanes 0)
+
+  pub settle_calls : (o : Snapshot (State D J)) (v w : View (Snapshot (State D J)) Event) (r : Result Settled Worn) (P : List CallEntry → Type 0) → v.alone ≡ true → Does v w (SettleSays seen o v w r) → P (calls_of (events_of v.seen)) → IfOk r (λ _. P (calls_of (events_of w.seen)))
+  settle_calls o v w (Ok NotAsked) P a p k = absurd p.says
+  settle_calls o v w (Ok Done) P a p k = subst P (sym (calls_stay v w p.events a p.went (closer_tells p.events p.says.of))) k
+  settle_calls o v w (Ok Failed) P a p k = subst P (sym (calls_stay v w p.events a p.went (closer_tells p.events p.says.of))) k
+  settle_calls o v w (Err x) P a p k = tt

@@ -8,9 +8,8 @@ mod line_calls;
 mod lines;
 mod logs;
 mod making;
-//mod run;
 
 pub use line_calls::LineCalls;
-pub use logs::LaneLog;
-//pub use run::{Ran, run_over};
+pub use logs::{LaneLog, empty_logs};
+pub use making::make_run;
 pub use settling::Settled;

@@ -22,7 +22,7 @@ pub struct LaneLog {
 }
 
 /// A log for each lane, with room for all of its replies.
-pub(crate) fn empty_logs(alloc: Global, lanes: &[Lane]) -> Result<Vec<LaneLog>, NoMemory>
+pub fn empty_logs(alloc: Global, lanes: &[Lane]) -> Result<Vec<LaneLog>, NoMemory>
     requires { length lanes.now < 2 ^ 32 }
     ensures logs { IfOk result (λ logs. (last : ℕ) → AreLogs (length lanes.now) last [] logs.items) }
     ensures room { IfOk result (λ logs. HaveRoom (requests_by_lane lanes.now) logs.items) }

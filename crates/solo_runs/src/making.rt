@@ -54,7 +54,7 @@ fn run_script<D: Die, J: CallJob, C: LineCalls<D, J>>(
 }
 
 /// The same, and the last sync where it is asked for, by way of `page`.
-pub(crate) fn make_run<D: Die, J: CallJob, C: LineCalls<D, J>>(
+pub fn make_run<D: Die, J: CallJob, C: LineCalls<D, J>>(
     alone: &mut Alone<System<D, J>>,
     calls: &mut C,
     script: &Script,

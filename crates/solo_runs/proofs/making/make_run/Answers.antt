@@ -1,12 +1,14 @@
-use Rattle.std.proofs.Common.{◌≡◌, ◌≤◌, ◌^◌, refl, sym, ap, ◌∙◌, subst}
+use Rattle.std.proofs.Common.{◌≡◌, ◌≤◌, ◌^◌, List, length, refl, sym, ap, ◌∙◌, subst}
 use Rattle.turn_cell.specs.Desks.{view_alone, opening_alone}
 use Rattle.system_state.specs.Cores.{core_of}
 use Rattle.desk_turns.specs.Passing.{core_seen, Does}
 use Rattle.core_closing.specs.Kept.{MaySettle}
 use Rattle.settling.specs.Books.{opening_in}
 use Rattle.solo_lanes.specs.Lanes.{AreHome}
+use Rattle.plain_files.specs.History.{Entry}
+use Rattle.solo_runs.specs.Logs.{AreLogs}
 use Rattle.solo_runs.specs.Lines.{script_of}
-use Rattle.solo_runs.proofs.Running.{run_unasked, settle_says, run_worn}
+use Rattle.solo_runs.proofs.Running.{run_unasked, settle_says, run_worn, settle_calls}
 use Rattle.solo_runs.proofs.making.make_run.Goals as goal
 
 pub settle_alone-requires-clause-may : goal.settle_alone-requires-clause-may
@@ -29,3 +31,8 @@ returns-then-settles-clause-did g c =
 pub returns-clause-did : goal.returns-clause-did
 returns-clause-did g c =
     run_unasked g.D.Die.seen (opening_alone opening_in c.args.alone.now) (view_alone c.args.alone.now) (view_alone c.run_script.new.alone) (script_of c.args.script.now) c.args.settles c.if-settles.false c.requires.free.2.0 c.requires.none c.in_ok-run_script.ensures.did
+
+pub returns-then-settles-clause-logs : goal.returns-then-settles-clause-logs
+returns-then-settles-clause-logs g c =
+    settle_calls g.D.Die.seen (opening_alone opening_in c.run_script.new.alone) (view_alone c.run_script.new.alone) (view_alone c.settle_alone.new.alone) c.settle_alone.result
+    (λ (xs : List Entry). AreLogs (length c.args.script.now.lanes) c.args.last xs c.run_script.new.logs.items) c.run_script.ensures.free.2.0 c.settle_alone.ensures.did c.in_ok-run_script.ensures.logs

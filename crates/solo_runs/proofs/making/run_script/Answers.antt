@@ -1,4 +1,4 @@
-use Rattle.std.proofs.Common.{◌≡◌, ◌<◌, ◌≤◌, ◌^◌, [], length, refl, sym, ap, ◌∙◌, subst, arith}
+use Rattle.std.proofs.Common.{◌≡◌, ◌<◌, ◌≤◌, ◌^◌, List, [], length, refl, sym, ap, ◌∙◌, subst, arith}
 use Rattle.std.specs.Prelude.{Err}
 use Rattle.std.specs.declared.snapshot.Snapshot.{Snapshot}
 use Rattle.turn_cell.specs.Desks.{view_alone, opening_alone}
@@ -11,9 +11,11 @@ use Rattle.desk_turns.specs.Passing.{core_seen, Does}
 use Rattle.settling.specs.Books.{opening_in}
 use Rattle.settling.specs.Words.{IsSmall}
 use Rattle.solo_lanes.specs.Lanes.{IsUnentered, MayAllLeave, HaveLeft, LeaveSays}
+use Rattle.plain_files.specs.History.{Entry}
+use Rattle.solo_runs.specs.Logs.{AreLogs}
 use Rattle.solo_runs.specs.Lines.{script_of, IsBetween, HaveMade, LinesSay}
 use Rattle.solo_runs.proofs.Lining.{requests_long}
-use Rattle.solo_runs.proofs.Running.{unentered, first_between, none_yet, may_leave, script_run, worn_entering, worn_in_lines, worn_leaving}
+use Rattle.solo_runs.proofs.Running.{unentered, first_between, none_yet, may_leave, script_run, worn_entering, worn_in_lines, worn_leaving, left_calls}
 use Rattle.solo_runs.proofs.making.run_script.Goals as goal
 
 pub enter_all-requires-clause-lanes : goal.enter_all-requires-clause-lanes
@@ -89,3 +91,10 @@ returns-clause-did g c =
     let made = subst (λ z. Does u x (HaveMade g.D.Die.seen z u x s s.order)) c.enter_all.ensures.turn.1 c.in_ok-run_lines.ensures.did in
     let left = subst (λ z. Does x w (HaveLeft g.D.Die.seen z x w c.len-lanes.result)) (c.run_lines.ensures.turn.1 ∙ c.enter_all.ensures.turn.1) c.in_ok-leave_all.ensures.did in
     script_run g.D.Die.seen o v u x w s c.len-lanes.result number c.requires.may c.in_ok-enter_all.ensures.did made left
+
+pub returns-clause-logs : goal.returns-clause-logs
+returns-clause-logs g c =
+    let x = view_alone c.run_lines.new.alone in
+    let w = view_alone c.leave_all.new.alone in
+    subst (λ (xs : List Entry). AreLogs (length c.args.script.now.lanes) c.args.last xs c.run_lines.new.logs.items)
+    (sym (left_calls g.D.Die.seen (opening_alone opening_in c.run_lines.new.alone) x w c.len-lanes.result c.run_lines.ensures.free.2.0 c.in_ok-leave_all.ensures.did)) c.in_ok-run_lines.ensures.logs
