@@ -1,5 +1,5 @@
 -- The script that `bench` runs, by its start and the number of its drawn lines. This project's own.
-use Rattle.std.specs.Prelude.{ℕ, zero, suc, ◌+◌, ◌/◌, ◌%◌, ◌==◌, List, [], ◌∷◌, ◌++◌, if◌then◌else◌, codes, decimal}
+use Rattle.std.specs.Prelude.{ℕ, zero, suc, ◌+◌, ◌%◌, ◌==◌, List, [], ◌∷◌, ◌++◌, if◌then◌else◌, codes, decimal}
 use Rattle.hex.specs.Hex.{encode_lower}
 use Rattle.bench_script.specs.Draws.{first, after}
 

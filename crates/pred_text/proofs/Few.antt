@@ -1,13 +1,12 @@
 -- A predicate that was read has as many nodes as began, which are at most 200.
-use Rattle.std.proofs.Common.{◌≡◌, ℕ, ◌+◌, ◌≤◌, List, [], ◌∷◌, Bool, true, false, not, Option, Some, None, Ok, Err, refl, ap, arith, ◌-◌, ◌^◌, length}
+use Rattle.std.proofs.Common.{◌≡◌, ℕ, ◌+◌, ◌≤◌, List, [], ◌∷◌, Bool, true, false, Option, Some, None, Ok, Err, refl, ap, arith, ◌-◌, ◌^◌, length}
 use Rattle.std.proofs.lemmas.Bool.Decides.{nat_tests}
-use Rattle.std.specs.Prelude.{Result, IfOk, nat_lt, if◌then◌else◌, ◌||◌, codes, bytes_eq}
+use Rattle.std.specs.Prelude.{Result, IfOk, nat_lt, if◌then◌else◌, codes, bytes_eq}
 use Rattle.predicates.proofs.NodeLaws.{nodes-and, nodes-or, nodes-not}
 use Rattle.predicates.specs.declared.pred.PredCond.{PredCond}
 use Rattle.predicates.specs.declared.pred.Pred.{Pred, Cmp}
 use Rattle.predicates.specs.declared.pred.Pred.TheVariants as pred
-use Rattle.predicates.specs.Nodes.{nodes, preorder}
-use Rattle.script_words.specs.Words.{number_in}
+use Rattle.predicates.specs.Nodes.{nodes}
 use Rattle.pred_text.specs.declared.fault.PredFault.{PredFault}
 use Rattle.pred_text.specs.declared.fault.PredKind.{PredKind}
 use Rattle.pred_text.specs.declared.fault.PredKind.TheVariants as kind
@@ -20,8 +19,8 @@ use Rattle.pred_text.specs.declared.place.Next.{Next}
 use Rattle.pred_text.specs.declared.place.Next.TheVariants as next
 use Rattle.pred_text.specs.declared.place.Place.{Place}
 use Rattle.pred_text.specs.Words.{Token, tokens, is_open, is_shut, cond_of}
-use Rattle.pred_text.specs.Places.{place, joined, at_predicate, at_comparison, at_word, read_number, number, with_number, closed_in, closed, at_close, step_at, step}
-use Rattle.pred_text.specs.Reading.{faulty, ended, on_step, reads, start, read_pred, ReadsPred}
+use Rattle.pred_text.specs.Places.{place, joined, at_predicate, at_comparison, at_word, number, with_number, closed, at_close, step_at, step}
+use Rattle.pred_text.specs.Reading.{ended, on_step, reads, start, read_pred, ReadsPred}
 
 -- the nodes that began in what is open, and in what may stand next
 abbrev opened : List Open → ℕ

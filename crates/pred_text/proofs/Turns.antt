@@ -2,7 +2,7 @@
 use Rattle.std.proofs.Common.{◌≡◌, ℕ, ◌+◌, List, [], ◌∷◌, Bool, true, false, Ok, refl}
 use Rattle.std.specs.Prelude.{if◌then◌else◌, not, ◌&&◌}
 use Rattle.pred_text.specs.declared.place.Place.{Place}
-use Rattle.pred_text.specs.Words.{Token, tokens, is_blank, is_paren, run_of}
+use Rattle.pred_text.specs.Words.{tokens, is_blank, is_paren, run_of}
 use Rattle.pred_text.specs.Places.{step}
 use Rattle.pred_text.specs.Reading.{on_step, reads}
 use Rattle.pred_text.specs.Turns.{is_in_run, step_in}

@@ -1,6 +1,6 @@
 -- The tokens of the text of a predicate: parentheses, and longest runs of other bytes than these, space and LF. This
 -- project's own.
-use Rattle.std.specs.Prelude.{ℕ, ◌+◌, List, [], ◌∷◌, Bool, true, false, not, ◌||◌, nat_eq, if◌then◌else◌, codes, bytes_eq, take, Option, Some, None}
+use Rattle.std.specs.Prelude.{ℕ, ◌+◌, List, [], ◌∷◌, Bool, true, false, ◌||◌, nat_eq, if◌then◌else◌, codes, bytes_eq, take, Option, Some, None}
 use Rattle.std.specs.List.{position_or_len}
 use Rattle.predicates.specs.declared.pred.PredCond.{PredCond}
 use Rattle.predicates.specs.declared.pred.PredCond.TheVariants as is

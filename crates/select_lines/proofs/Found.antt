@@ -1,6 +1,6 @@
 -- The first file of a name, from a place on.
-use Rattle.std.proofs.Common.{◌≡◌, inl, inr, ℕ, ◌+◌, List, [], ◌∷◌, drop, Bool, true, false, bytes_eq, Option, Some, None, refl, ap, sym, ◌∙◌}
-use Rattle.std.specs.List.{slice_get, find}
+use Rattle.std.proofs.Common.{◌≡◌, inl, inr, ℕ, ◌+◌, List, [], ◌∷◌, drop, true, false, Some, None, refl, ap, sym, ◌∙◌}
+use Rattle.std.specs.List.{slice_get}
 use Rattle.std.proofs.lemmas.List.{drop_more, drop_all}
 use Rattle.std.proofs.lemmas.Option.{slice_get_within, get_or_from_slice_get, slice_get_cases}
 use Rattle.plain_files.specs.declared.calls.PlainFile.{PlainFile}

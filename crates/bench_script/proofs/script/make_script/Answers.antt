@@ -1,4 +1,4 @@
-use Rattle.std.proofs.Common.{◌≡◌, ap, ◌∙◌, ◌++◌, string_bytes}
+use Rattle.std.proofs.Common.{ap, ◌∙◌, ◌++◌, string_bytes}
 use Rattle.bench_script.specs.Script.{script}
 use Rattle.bench_script.proofs.Lines.{line_more}
 use Rattle.bench_script.proofs.script.make_script.Goals as goal
