@@ -1,6 +1,6 @@
 -- One step of a call that is to begin, turn by turn.
 use Rattle.std.proofs.Common.{◌≡◌, ℕ, Bool, true, false, List, [], ◌∷◌, ◌++◌, map, Some, None, refl, sym, ap, ◌∙◌, subst, inl, inr, append-nil}
-use Rattle.std.specs.Prelude.{Result, Ok, Err, Option, unwrap_or}
+use Rattle.std.specs.Prelude.{Result, Ok, Err, IfOk, Option, unwrap_or}
 use Rattle.std.specs.Result.{IsErr}
 use Rattle.std.specs.declared.snapshot.Snapshot.{Snapshot}
 use Rattle.index_lists.specs.Words.{put}
@@ -18,13 +18,14 @@ use Rattle.plain_files.specs.declared.calls.Reply.TheVariants.{Fault, NoMemory}
 use Rattle.plain_files.specs.declared.calls.Request.{Request}
 use Rattle.core_state.specs.declared.actor.Actor.TheVariants.{Lane}
 use Rattle.core_state.specs.declared.event.Event.{Event}
-use Rattle.core_state.specs.declared.event.Event.TheVariants.{Quick, Skip, Begin}
+use Rattle.core_state.specs.declared.event.Event.TheVariants.{Quick, Skip, Begin, FlushOut}
 use Rattle.core_state.specs.State.{Flight, Core}
 use Rattle.core_state.specs.PageEvents.{no_flight}
 use Rattle.system_state.specs.Jobs.{view_of}
 use Rattle.call_job.specs.Suits.{Suits}
 use Rattle.core_state.specs.Reach.{claim_for}
 use Rattle.core_state.specs.LaneEvents.{first_flight}
+use Rattle.core_state.specs.Coherent.{Coherent}
 use Rattle.core_state.specs.Happens.{May, CoreRun, after}
 use Rattle.core_state.specs.History.{entry_of}
 use Rattle.core_solo.specs.Solo.{room_event}
@@ -47,9 +48,9 @@ use Rattle.quick_calls.specs.BegunAnswer.TheVariants.{Ended as Refused, Started 
 use Rattle.quick_calls.specs.Ways.{Waits as WayWaits, begin_way}
 use Rattle.quick_calls.specs.Flushing.{IsCutShort}
 use Rattle.page_steps.specs.LaneTurns.{SkipSays}
-use Rattle.quick_calls.specs.Making.{IsIdleWith, IsFree, IsMarked, MadeRoom, FailedRoom, NoRoomYet, RoomSays}
+use Rattle.quick_calls.specs.Making.{IsIdleWith, IsFree, IsMarked, IsForRoom, MadeRoom, FailedRoom, NoRoomYet, RoomSays}
 use Rattle.quick_calls.proofs.FlushSteps.{quiet_step, failed_on}
-use Rattle.quick_calls.proofs.Ending.{starts_on, idle_at, found_alone, acts_after, Waited, waited_none, waited_on, ended_on}
+use Rattle.quick_calls.proofs.Ending.{starts_on, idle_at, found_alone, acts_after, alone_after, Waited, waited_none, waited_on, ended_on}
 use Rattle.quick_calls.proofs.Frees.{free_quick, free_skip}
 use Rattle.job_turns.specs.Armed.{HasJob}
 use Rattle.job_turns.specs.Starting.{StartSays}
@@ -223,6 +224,14 @@ module _ {D J : Type 0} (seen : D → DieView) where
   same_tried o v u lane request picked why acts free t =
       (quiet_step seen o v u (BeginSays lane request picked (Err why)) (Lane lane) acts (free_may (core_seen C o v) lane free) t t.says.0).2
 
+  -- where the pass is alone, that leads from the core as it was seen first
+  room_run : (o : Snapshot (State D J)) (v u w : View (Snapshot (State D J)) Event) (lane : ℕ) (request : Request) (picked : Side) (why : NotYet) (es fs : List Event) → Tried o v u lane request picked why → es ≡ fs → (v.alone ≡ true → core_seen C o u ≡ core_seen C o v) →
+      (u.alone ≡ true → CoreRun (core_seen C o u) fs (core_seen C o w)) → v.alone ≡ true → CoreRun (core_seen C o v) es (core_seen C o w)
+  room_run o v u w lane request picked why es fs t is back run a =
+      subst (λ (c : Core). CoreRun c es (core_seen C o w)) (back a)
+      (subst (λ (xs : List Event). CoreRun (core_seen C o u) xs (core_seen C o w)) (sym is)
+      (run (alone_after seen v u t.events (went_turn C o v u (BeginSays lane request picked (Err why)) t) a)))
+
   -- what was done for room after the try
   roomed : (o : Snapshot (State D J)) (v u w : View (Snapshot (State D J)) Event) (lane : ℕ) (request : Request) (picked : Side) (why : NotYet) (step : BeginStep) (es fs : List Event) → ActsFor C o v (Lane lane) → IsFree (core_seen C o v) lane → lacks_room why ≡ true → (t : Tried o v u lane request picked why) → (u.seen ≡ v.seen ++ t.between) → es ≡ fs → Went u w fs →
       (v.alone ≡ true → core_seen C o u ≡ core_seen C o v) → RoomStepSays seen o u w lane picked (Ok step) fs → StepSays seen o v w lane request Idle (Ok step) es
@@ -239,8 +248,11 @@ module _ {D J : Type 0} (seen : D → DieView) where
         are = is ∙ p.are;
         whole = p.whole;
         found = record { before = p.found.before; rest = p.found.rest; since = starts_on v.seen u.seen p.found.before (t.between, seen_is) p.found.since; seen = p.found.seen; says = p.found.says };
+        first = λ a. subst (IsForRoom lane picked p.event) (back a) (p.first (alone_after seen v u t.events (went_turn C o v u (BeginSays lane request picked (Err why)) t) a));
         after = p.after;
         same = keeps_on (core_seen C o v) (core_seen C o u) (core_seen C o w) (Lane lane) (same_tried o v u lane request picked why acts free t) p.same;
+        coherent = p.coherent;
+        run = room_run o v u w lane request picked why es fs t is back p.run;
       },
     ),
   )
@@ -256,8 +268,11 @@ module _ {D J : Type 0} (seen : D → DieView) where
         are = is ∙ p.are;
         found = record { before = p.found.before; rest = p.found.rest; since = starts_on v.seen u.seen p.found.before (t.between, seen_is) p.found.since; seen = p.found.seen; says = p.found.says };
         failed = failed_on seen o v u w p.die (t.between, seen_is) p.failed;
+        first = λ a. subst (IsForRoom lane picked (FlushOut (Lane lane) p.die p.block)) (back a) (p.first (alone_after seen v u t.events (went_turn C o v u (BeginSays lane request picked (Err why)) t) a));
         after = p.after;
         same = keeps_on (core_seen C o v) (core_seen C o u) (core_seen C o w) (Lane lane) (same_tried o v u lane request picked why acts free t) p.same;
+        coherent = p.coherent;
+        run = room_run o v u w lane request picked why es fs t is back p.run;
       },
     ),
   )
@@ -269,13 +284,10 @@ module _ {D J : Type 0} (seen : D → DieView) where
           are = is ∙ p.are;
           because = p.none;
           after = p.after;
-          same = λ a. stays (alone_of a) ∙ back a;
+          same = λ a. stays (alone_after seen v u t.events (went_turn C o v u (BeginSays lane request picked (Err why)) t) a) ∙ back a;
         },
       )
     where
-      alone_of : v.alone ≡ true → u.alone ≡ true
-      alone_of a = ap (λ (z : View (Snapshot (State D J)) Event). z.alone) (went_turn C o v u (BeginSays lane request picked (Err why)) t).pass ∙ a
-
       stays : u.alone ≡ true → core_seen C o w ≡ core_seen C o u
       stays a = ap (λ (h : List (Entry Event)). core_after C o h) (went.alone a ∙ (ap (λ (xs : List Event). u.seen ++ map (entry u.number) xs) p.are ∙ append-nil u.seen))
 
@@ -335,6 +347,12 @@ module _ {D J : Type 0} (seen : D → DieView) where
           same = d.says.same;
         };
       }
+
+  -- ---- the core as it was seen first
+
+  pub begins_at : {A : Type 0} (o : Snapshot (State D J)) (v u : View (Snapshot (State D J)) Event) (P : Core → List Event → Type 0) (r : Result A Worn) → Turn C o v u P → IfOk r (λ _. v.alone ≡ true → Coherent (core_seen C o v))
+  begins_at o v u P (Ok x) t = λ a. subst Coherent (found_alone seen o v u P t a) t.coherent
+  begins_at o v u P (Err x) t = tt
 
   -- ---- where the turn is worn
 

@@ -1,4 +1,10 @@
 pub mod Steps
+pub use Rattle.job_turns.specs.Armed
 pub use Rattle.quick_calls.specs.Making
 pub use Rattle.quick_calls.specs.Words
+pub use Rattle.quick_calls.specs.Cut
+pub use Rattle.quick_calls.specs.Calls
 pub use Rattle.quick_calls.specs.Books
+pub use Rattle.quick_calls.specs.Begun
+pub use Rattle.quick_calls.specs.Ways
+pub use Rattle.quick_calls.specs.Flushing

@@ -4,5 +4,5 @@
 mod room;
 mod step;
 
-pub use quick_calls::System;
+pub use quick_calls::{System, skip_call, skip_call_alone};
 pub use step::{BeginStep, Stage, begin_step};

@@ -1,10 +1,11 @@
 //! One step of a call that is to begin.
-ghost use Rattle.std.specs.Prelude.{◌≡◌, ◌⊎◌, true, Ok, IfErr};
+ghost use Rattle.std.specs.Prelude.{◌≡◌, ◌⊎◌, true, Ok, IfOk, IfErr};
 ghost use Rattle.turn_cell.specs.Events.{events_of};
 ghost use Rattle.turn_cell.specs.Steps.{IsWorn};
 ghost use Rattle.plain_files.specs.declared.calls.Numbered.{Numbered};
 ghost use Rattle.core_state.specs.declared.actor.Actor.TheVariants.{Lane};
 ghost use Rattle.core_state.specs.Reach.{is_data, is_sync};
+ghost use Rattle.core_state.specs.Coherent.{Coherent};
 ghost use Rattle.core_state.specs.History.{calls_of};
 ghost use Rattle.system_state.specs.Cores.{core_of};
 ghost use Rattle.call_job.specs.Prepares.{IsPrepared};
@@ -82,6 +83,7 @@ fn step_idle<D: Die, K: Desk<System<D, Job>>>(
     ensures turn { (K.table desk.new ≡ K.table desk.old) × (K.opening desk.new ≡ K.opening desk.old) }
     ensures did { Does (K.view desk.old) (K.view desk.new) (StepSays D.seen (K.opening desk.old) (K.view desk.old) (K.view desk.new) lane prepared.old.job.request Idle result) }
     ensures job { JobSays (core_seen (core_of D.seen) (K.opening desk.old) (K.view desk.new)) lane prepared.old.job prepared.new.job result }
+    ensures begins { IfOk result (λ _. (K.view desk.old).alone ≡ true → Coherent (core_seen (core_of D.seen) (K.opening desk.old) (K.view desk.old))) }
     ensures numbered { (n : Numbered) → result ≡ Ok (Ended n) → IsNumbered (K.opening desk.old).value.last (calls_of (events_of (K.view desk.new).seen)) n.number (record { lane = lane; call = prepared.old.job.request.call; reply = n.reply }) }
 {
     let answer = turn_begin_job(desk, lane, prepared)?;
@@ -111,6 +113,7 @@ fn step_marked<D: Die, K: Desk<System<D, Job>>>(
     ensures worn { IfErr result (λ x. IsWorn x.count (K.view desk.new)) }
     ensures turn { (K.table desk.new ≡ K.table desk.old) × (K.opening desk.new ≡ K.opening desk.old) }
     ensures did { Does (K.view desk.old) (K.view desk.new) (StepSays D.seen (K.opening desk.old) (K.view desk.old) (K.view desk.new) lane request.now Marked result) }
+    ensures begins { IfOk result (λ _. (K.view desk.old).alone ≡ true → Coherent (core_seen (core_of D.seen) (K.opening desk.old) (K.view desk.old))) }
     ensures numbered { (n : Numbered) → result ≡ Ok (Ended n) → IsNumbered (K.opening desk.old).value.last (calls_of (events_of (K.view desk.new).seen)) n.number (record { lane = lane; call = request.now.call; reply = n.reply }) }
 {
     let answer = turn_skip(desk, lane, request, true)?;
@@ -122,7 +125,7 @@ fn step_marked<D: Die, K: Desk<System<D, Job>>>(
 
 /// Makes one step of a prepared data call or `sync` that hasn't begun, by way of `page`. Without a mark it is tried: it is refused and has
 /// ended, it begins, or, where it has no room, the first possible event for room at its side is made. With a mark it is skipped, with a fault.
-/// Where it began its job suits it, and else the job is as it was.
+/// Where it began its job suits it, and else the job is as it was. Where the pass is alone, the core as it was seen first is coherent.
 pub fn begin_step<D: Die, K: Desk<System<D, Job>>>(
     desk: &mut K,
     lane: u32,
@@ -141,6 +144,7 @@ pub fn begin_step<D: Die, K: Desk<System<D, Job>>>(
     ensures turn { (K.table desk.new ≡ K.table desk.old) × (K.opening desk.new ≡ K.opening desk.old) }
     ensures did { Does (K.view desk.old) (K.view desk.new) (StepSays D.seen (K.opening desk.old) (K.view desk.old) (K.view desk.new) lane prepared.old.job.request stage result) }
     ensures job { JobSays (core_seen (core_of D.seen) (K.opening desk.old) (K.view desk.new)) lane prepared.old.job prepared.new.job result }
+    ensures begins { IfOk result (λ _. (K.view desk.old).alone ≡ true → Coherent (core_seen (core_of D.seen) (K.opening desk.old) (K.view desk.old))) }
     ensures numbered { (n : Numbered) → result ≡ Ok (Ended n) → IsNumbered (K.opening desk.old).value.last (calls_of (events_of (K.view desk.new).seen)) n.number (record { lane = lane; call = prepared.old.job.request.call; reply = n.reply }) }
 {
     match stage {

@@ -1,6 +1,6 @@
 -- The last sync, step by step.
-use Rattle.std.proofs.Common.{◌≡◌, ℕ, ◌+◌, ◌<◌, ◌≤◌, Bool, true, false, List, [], ◌∷◌, ◌++◌, Option, Some, None, refl, sym, ap, ◌∙◌, subst, ⊎_elim, append-nil, append_assoc, arith}
-use Rattle.std.specs.Prelude.{is_some, is_none, slice_get, option_map, Result, Ok, Err}
+use Rattle.std.proofs.Common.{◌≡◌, ℕ, ◌+◌, ◌<◌, ◌≤◌, Bool, true, false, List, [], ◌∷◌, ◌++◌, Option, Some, None, refl, sym, ap, ◌∙◌, subst, ⊎_elim, append-nil, append_assoc, length-append, arith}
+use Rattle.std.specs.Prelude.{length, is_some, is_none, slice_get, option_map, Result, Ok, Err}
 use Rattle.std.specs.Result.{IsErr}
 use Rattle.std.specs.declared.snapshot.Snapshot.{Snapshot}
 use Rattle.page_base.specs.Drive.{meta_pages}
@@ -27,7 +27,7 @@ use Rattle.core_solo.proofs.Rooms.{AllHome}
 use Rattle.core_solo.proofs.Flights.{flush_there_of}
 use Rattle.core_solo.proofs.Folds.{append, after_both}
 use Rattle.core_solo.proofs.Falls.{outs_home}
-use Rattle.core_solo.proofs.Closing.{at_home, step_settles}
+use Rattle.core_solo.proofs.Closing.{at_home, step_settles, sync_stepped, sync_outs, left_most}
 use Rattle.core_outcomes.proofs.Sent.{run_sent}
 use Rattle.core_closing.specs.Kept.{MaySettle, IsStoredSoFar}
 use Rattle.core_closing.proofs.Keeps.{all_stored}
@@ -201,7 +201,20 @@ module _ {D J : Type 0} (seen : D → DieView) where
   pub worn_on : (o q : Snapshot (State D J)) (v u w : View (Snapshot (State D J)) Event) (x : Worn) (r : Result Settled Worn) → q ≡ o → IsErr r → Does v u (Going o v u) → Does u w (StepSays seen q u w (Err x)) → Does v w (SettleSays seen o v w r)
   worn_on o q v u w x (Ok y) same e p q' = absurd (cc)
   worn_on o q v u w x (Err y) same e p q' =
-      record { events = p.events ++ q'.events; went = went_on v u w p.events q'.events p.went q'.went; says = of_on Closer p.events q'.events p.says.of q'.says }
+      record {
+        events = p.events ++ q'.events;
+        went = went_on v u w p.events q'.events p.went q'.went;
+        says = (
+          of_on Closer p.events q'.events p.says.of q'.says.0,
+          λ a f h s.
+              let k = sync_stepped encode p.events (core_seen C o v) (core_seen C o u) h s (p.says.steps a) (p.says.run a) in
+              let n = k.falls in
+              let b = sync_outs (core_seen C o u) k.coherent k.settling in
+              let m = left_most (core_seen C o v) f h in
+              let l = q'.says.1 in
+              omega (arith, length-append p.events q'.events),
+        );
+      }
 
   -- ---- alone
 

@@ -1,6 +1,6 @@
 -- One step of the last sync: two turns, or one without an event.
-use Rattle.std.proofs.Common.{◌≡◌, ℕ, ◌+◌, ◌<◌, ◌≤◌, Bool, true, false, List, [], ◌∷◌, ◌++◌, map, Some, None, refl, sym, ap, ◌∙◌, subst, inl, inr, append-nil, append_assoc}
-use Rattle.std.specs.Prelude.{◌≢◌, Result, Ok, Err, not}
+use Rattle.std.proofs.Common.{◌≡◌, ℕ, ◌+◌, ◌<◌, ◌≤◌, Bool, true, false, List, [], ◌∷◌, ◌++◌, map, Some, None, refl, sym, ap, ◌∙◌, subst, inl, inr, append-nil, append_assoc, arith}
+use Rattle.std.specs.Prelude.{◌≢◌, length, Result, Ok, Err, not}
 use Rattle.std.specs.Result.{IsErr}
 use mathlib.Core.List.{map-append}
 use Rattle.std.specs.declared.snapshot.Snapshot.{Snapshot}
@@ -296,7 +296,7 @@ module _ {D J : Type 0} (seen : D → DieView) where
 
   pub step_worn : (o : Snapshot (State D J)) (v w : View (Snapshot (State D J)) Event) (r : Result SettleStep Worn) → IsErr r → Went v w [] → Does v w (StepSays seen o v w r)
   step_worn o v w (Ok x) e went = absurd (cc)
-  step_worn o v w (Err y) e went = record { events = []; went = went; says = tt }
+  step_worn o v w (Err y) e went = record { events = []; went = went; says = (tt, omega arith) }
 
   pub home_worn : (o : Snapshot (State D J)) (v u w : View (Snapshot (State D J)) Event) (P : Core → List Event → Type 0) (out : Event) (r : Result SettleStep Worn) → IsErr r → (t : Turn C o v u P) → t.events ≡ out ∷ [] → actor_of out ≡ Closer → Went u w [] → Does v w (StepSays seen o v w r)
   home_worn o v u w P out (Ok x) e t is actor went = absurd (cc)
@@ -304,5 +304,5 @@ module _ {D J : Type 0} (seen : D → DieView) where
       record {
         events = t.events ++ [];
         went = went_on v u w t.events [] (went_turn C o v u P t) went;
-        says = subst (AreOf Closer) (sym (append-nil t.events ∙ is)) (actor, tt);
+        says = subst (λ (es : List Event). AreOf Closer es × (length es ≤ 1)) (sym (append-nil t.events ∙ is)) ((actor, tt), omega arith);
       }

@@ -1,5 +1,5 @@
 -- One step of the last sync over a desk: one write, or none yet, or none any more. This project's own.
-use Rattle.std.specs.Prelude.{◌≡◌, ℕ, Bool, true, false, not, List, [], ◌∷◌, ◌++◌, Result, Ok, Err}
+use Rattle.std.specs.Prelude.{◌≡◌, ◌≤◌, ℕ, Bool, true, false, not, List, [], ◌∷◌, ◌++◌, length, Result, Ok, Err}
 use Rattle.std.specs.declared.snapshot.Snapshot.{Snapshot}
 use Rattle.turn_cell.specs.declared.book.Entry.{Entry}
 use Rattle.turn_cell.specs.declared.view.View.{View}
@@ -64,7 +64,7 @@ module _ {D J : Type 0} (seen : D → DieView) where
 
   -- what a step answers, and its events
   abbrev pub StepSays : Snapshot (State D J) → View (Snapshot (State D J)) Event → View (Snapshot (State D J)) Event → Result SettleStep Worn → List Event → Type 0
-  StepSays o v w (Err x) es = AreOf Closer es
+  StepSays o v w (Err x) es = AreOf Closer es × (length es ≤ 1)
   StepSays o v w (Ok On) es = WroteNext o v w true es
   StepSays o v w (Ok Failed) es = WroteNext o v w false es
   StepSays o v w (Ok Done) es = WroteNone o v w IsStored es × IsUnfailed o w

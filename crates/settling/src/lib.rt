@@ -12,5 +12,6 @@ mod turn;
 
 pub use last_sync::{Settled, settle, settle_alone};
 pub use next::{Next, try_next};
+pub use page_steps::System;
 pub use step::{SettleStep, settle_step};
 pub use turn::turn_next;

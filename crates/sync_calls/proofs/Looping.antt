@@ -1,5 +1,5 @@
 -- A `sync`, step by step.
-use Rattle.std.proofs.Common.{◌≡◌, ℕ, ◌+◌, ◌*◌, ◌<◌, ◌≤◌, Bool, true, false, List, [], ◌∷◌, ◌++◌, refl, sym, ap, ◌∙◌, subst, ⊎_elim, append-nil, arith}
+use Rattle.std.proofs.Common.{◌≡◌, ℕ, ◌+◌, ◌*◌, ◌<◌, ◌≤◌, Bool, true, false, List, [], ◌∷◌, ◌++◌, refl, sym, ap, ◌∙◌, subst, ⊎_elim, append-nil, length-append, lit≤, arith}
 use Rattle.std.specs.Prelude.{◌≢◌, ◌⊎◌, length, Result, Ok, Err}
 use Rattle.std.specs.Result.{IsErr}
 use Rattle.std.specs.declared.snapshot.Snapshot.{Snapshot}
@@ -23,7 +23,7 @@ use Rattle.core_solo.specs.Solo.{Steps, IsStep, IsNext}
 use Rattle.core_solo.specs.Alone.{IsAlone}
 use Rattle.core_solo.specs.Left.{call_left}
 use Rattle.core_solo.proofs.Asks.{calls_both}
-use Rattle.core_solo.proofs.Bounds.{stepped}
+use Rattle.core_solo.proofs.Bounds.{stepped, steps_short}
 use Rattle.core_solo.proofs.Falls.{outs_home}
 use Rattle.core_solo.proofs.Folds.{append}
 use Rattle.core_solo.proofs.Nexts.{home_alone}
@@ -251,11 +251,21 @@ module _ {D J : Type 0} (seen : D → DieView) where
       Does v w (SyncCallSays seen o v w lane request r)
   worn_on o q v u w lane request count stage x (Ok y) same e p q' = absurd (cc)
   worn_on o q v u w lane request count stage x (Err y) same e p q' =
-      record { events = p.events ++ q'.events; went = went_on v u w p.events q'.events p.went q'.went; says = (of_on (Lane lane) p.events q'.events p.says.of q'.says.0, calls_both p.events q'.events ∙ (λ i. p.says.silent i ++ q'.says.1 i)) }
+      record {
+        events = p.events ++ q'.events;
+        went = went_on v u w p.events q'.events p.went q'.went;
+        says = (
+          (of_on (Lane lane) p.events q'.events p.says.of q'.says.0.0, calls_both p.events q'.events ∙ (λ i. p.says.silent i ++ q'.says.0.1 i)),
+          λ a f alone idle.
+              let k = steps_short encode p.events (core_seen C o v) (core_seen C o u) lane request request f (p.says.begins a) alone idle (p.says.steps a) (p.says.run a) in
+              let b = q'.says.1 in
+              omega (arith, length-append p.events q'.events),
+        );
+      }
 
   pub worn_first : (o : Snapshot (State D J)) (v w : View (Snapshot (State D J)) Event) (lane : ℕ) (request : Request) (r : Result Numbered Worn) → IsErr r → Went v w [] → Does v w (SyncCallSays seen o v w lane request r)
   worn_first o v w lane request (Ok y) e went = absurd (cc)
-  worn_first o v w lane request (Err y) e went = record { events = []; went = went; says = (tt, refl) }
+  worn_first o v w lane request (Err y) e went = record { events = []; went = went; says = ((tt, refl), λ a f alone idle. lit≤ tt) }
 
   -- ---- alone
 

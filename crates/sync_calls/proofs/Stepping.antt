@@ -1,6 +1,6 @@
 -- One step of a `sync`: two turns, or one.
 use Rattle.std.proofs.Common.{◌≡◌, ℕ, ◌+◌, ◌<◌, ◌≤◌, Bool, true, false, List, [], ◌∷◌, ◌++◌, Option, None, inl, inr, refl, sym, ap, ◌∙◌, subst, append-nil, arith}
-use Rattle.std.specs.Prelude.{not, is_none, is_some, slice_get, option_map, Result, Ok, Err, IfOk, IfErr}
+use Rattle.std.specs.Prelude.{length, not, is_none, is_some, slice_get, option_map, Result, Ok, Err, IfOk, IfErr}
 use Rattle.std.specs.List.{find}
 use Rattle.std.specs.Result.{IsErr}
 use Rattle.std.specs.declared.snapshot.Snapshot.{Snapshot}
@@ -484,13 +484,13 @@ module _ {D J : Type 0} (seen : D → DieView) where
 
   pub replied_worn : (o : Snapshot (State D J)) (v w : View (Snapshot (State D J)) Event) (lane : ℕ) (request : Request) (count : ℕ) (stage : Stage) (fault : Bool) (x : Worn) (r : Result SyncStep Worn) → IsErr r → Does v w (EndedSays seen o v w lane request fault (Err x)) → Does v w (StepSays seen o v w lane request count stage r)
   replied_worn o v w lane request count stage fault x (Ok y) e p = absurd (cc)
-  replied_worn o v w lane request count stage fault x (Err y) e p = record { events = p.events; went = p.went; says = subst (λ (es : List Event). AreSilent lane es) (sym p.says) (tt, refl) }
+  replied_worn o v w lane request count stage fault x (Err y) e p = record { events = p.events; went = p.went; says = subst (λ (es : List Event). AreSilent lane es × (length es ≤ 1)) (sym p.says) ((tt, refl), omega arith) }
 
   -- ---- where the turn is worn
 
   pub step_worn : (o : Snapshot (State D J)) (v w : View (Snapshot (State D J)) Event) (lane : ℕ) (request : Request) (count : ℕ) (stage : Stage) (r : Result SyncStep Worn) → IsErr r → Went v w [] → Does v w (StepSays seen o v w lane request count stage r)
   step_worn o v w lane request count stage (Ok x) e went = absurd (cc)
-  step_worn o v w lane request count stage (Err y) e went = record { events = []; went = went; says = (tt, refl) }
+  step_worn o v w lane request count stage (Err y) e went = record { events = []; went = went; says = ((tt, refl), omega arith) }
 
   pub home_worn : (o : Snapshot (State D J)) (v u w : View (Snapshot (State D J)) Event) (lane : ℕ) (request : Request) (count : ℕ) (stage : Stage) (P : Core → List Event → Type 0) (out : Event) (r : Result SyncStep Worn) → IsErr r → (t : Turn C o v u P) → t.events ≡ out ∷ [] → actor_of out ≡ Lane lane → entry_of out ≡ None → Went u w [] → Does v w (StepSays seen o v w lane request count stage r)
   home_worn o v u w lane request count stage P out (Ok x) e t is actor silent went = absurd (cc)
@@ -498,7 +498,7 @@ module _ {D J : Type 0} (seen : D → DieView) where
       record {
         events = t.events ++ [];
         went = went_on v u w t.events [] (went_turn C o v u P t) went;
-        says = subst (λ (es : List Event). AreSilent lane es) (sym (append-nil t.events ∙ is)) ((actor, tt), ap (λ (x : Option CallEntry). and_then x []) silent);
+        says = subst (λ (es : List Event). AreSilent lane es × (length es ≤ 1)) (sym (append-nil t.events ∙ is)) (((actor, tt), ap (λ (x : Option CallEntry). and_then x []) silent), omega arith);
       }
 
   -- while a die is out the call is the lane's own

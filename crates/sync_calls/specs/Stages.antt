@@ -1,5 +1,5 @@
 -- One step of a `sync` over a desk. This project's own.
-use Rattle.std.specs.Prelude.{◌≡◌, ◌≢◌, ◌⊎◌, ◌<◌, ◌≤◌, ℕ, Bool, true, false, List, [], Some, Result, Ok, Err}
+use Rattle.std.specs.Prelude.{◌≡◌, ◌≢◌, ◌⊎◌, ◌<◌, ◌≤◌, ℕ, Bool, true, false, List, [], length, Some, Result, Ok, Err}
 use Rattle.std.specs.declared.snapshot.Snapshot.{Snapshot}
 use Rattle.turn_cell.specs.declared.view.View.{View}
 use Rattle.turn_cell.specs.declared.pass.Worn.{Worn}
@@ -112,7 +112,7 @@ module _ {D J : Type 0} (seen : D → DieView) where
 
   -- what a step answers, and its events
   abbrev pub StepSays : Snapshot (State D J) → View (Snapshot (State D J)) Event → View (Snapshot (State D J)) Event → ℕ → Request → ℕ → Stage → Result SyncStep Worn → List Event → Type 0
-  StepSays o v w lane request count stage (Err x) es = AreSilent lane es
+  StepSays o v w lane request count stage (Err x) es = AreSilent lane es × (length es ≤ 1)
   StepSays o v w lane request count stage (Ok (On next)) es = HasGoneOn o v w lane request count stage next es
   StepSays o v w lane request count stage (Ok (Replied n)) es = HasReplied o v w lane request (is_failed stage) n es
   StepSays o v w lane request count stage (Ok Waits) es = HasWaited o v w lane request count stage es

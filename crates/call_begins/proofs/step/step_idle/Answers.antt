@@ -8,7 +8,8 @@ use Rattle.quick_calls.specs.Making.{IsFree}
 use Rattle.job_turns.specs.Starting.{StartSays}
 use Rattle.call_begins.specs.Steps.{StepSays, JobSays}
 use Rattle.call_begins.specs.declared.step.Stage.TheVariants.{Idle}
-use Rattle.call_begins.proofs.Stepping.{began_step, job_begun, waits_step, room_step, still_free, refused_told}
+use Rattle.call_begins.specs.declared.step.BeginStep.TheVariants.{Waits}
+use Rattle.call_begins.proofs.Stepping.{began_step, job_begun, waits_step, room_step, still_free, refused_told, begins_at}
 use Rattle.call_begins.proofs.step.step_idle.Goals as goal
 
 pub step_room-requires-clause-lane : goal.step_room-requires-clause-lane
@@ -66,3 +67,30 @@ returns-in-Ok-clause-job g c =
     let new = c.turn_begin_job.new.prepared.job in
     let says = subst (λ r. StartSays (core_seen (core_of g.D.Die.seen) o u) c.args.lane old new r) c.in-Ok.is c.in_ok-answer.ensures.job in
     subst (λ s. JobSays (core_seen (core_of g.D.Die.seen) o u) c.args.lane old new (Ok s)) (sym c.began.ensures) (job_begun (core_seen (core_of g.D.Die.seen) o u) c.args.lane old new c.in-Ok.begun says)
+
+pub returns-in-Ok-clause-begins : goal.returns-in-Ok-clause-begins
+returns-in-Ok-clause-begins g c =
+    let o = g.K.Desk.opening c.args.desk.now in
+    let v = g.K.Desk.view c.args.desk.now in
+    let u = g.K.Desk.view c.turn_begin_job.new.desk in
+    let request = c.args.prepared.now.job.request in
+    let picked = c.turn_begin_job.new.prepared.picked in
+    begins_at g.D.Die.seen o v u (BeginSays c.args.lane request picked c.in_ok-answer.answer) (Ok c.began.result) c.in_ok-answer.ensures.did
+
+pub returns-then-lacks_room-clause-begins : goal.returns-then-lacks_room-clause-begins
+returns-then-lacks_room-clause-begins g c =
+    let o = g.K.Desk.opening c.args.desk.now in
+    let v = g.K.Desk.view c.args.desk.now in
+    let u = g.K.Desk.view c.turn_begin_job.new.desk in
+    let request = c.args.prepared.now.job.request in
+    let picked = c.turn_begin_job.new.prepared.picked in
+    begins_at g.D.Die.seen o v u (BeginSays c.args.lane request picked c.in_ok-answer.answer) c.step_room.result c.in_ok-answer.ensures.did
+
+pub returns-else-lacks_room-clause-begins : goal.returns-else-lacks_room-clause-begins
+returns-else-lacks_room-clause-begins g c =
+    let o = g.K.Desk.opening c.args.desk.now in
+    let v = g.K.Desk.view c.args.desk.now in
+    let u = g.K.Desk.view c.turn_begin_job.new.desk in
+    let request = c.args.prepared.now.job.request in
+    let picked = c.turn_begin_job.new.prepared.picked in
+    begins_at g.D.Die.seen o v u (BeginSays c.args.lane request picked c.in_ok-answer.answer) (Ok Waits) c.in_ok-answer.ensures.did

@@ -1,0 +1,5 @@
+pub mod Seats
+pub mod Calls
+pub mod Lanes
+pub mod Posts
+pub mod Crews

@@ -1,0 +1,14 @@
+//! Data calls without a function over a desk, from the request to the reply: memory for the call is found, room is made for it, it begins,
+//! gathers its pages and ends.
+//!
+//! Among other passes a call waits for those that are in its way. By the only pass none is, and it returns.
+#![tactic(auto)]
+
+mod data;
+mod kinds;
+
+pub use call_starts::System;
+pub use kinds::{
+    append_call, append_call_alone, read_call, read_call_alone, trunc_call, trunc_call_alone,
+    write_call, write_call_alone,
+};

@@ -1,0 +1,5 @@
+pub mod Ends
+pub mod Between
+pub mod Logging
+pub mod Lining
+pub mod Running
