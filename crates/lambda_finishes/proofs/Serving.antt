@@ -25,7 +25,7 @@ use Rattle.core_state.proofs.Runs.{leads_to}
 use Rattle.core_solo.specs.Alone.{IsAlone}
 use Rattle.core_solo.specs.Solo.{Steps, IsStep}
 use Rattle.core_solo.proofs.Folds.{append}
-use Rattle.core_solo.proofs.Keeps.{only_lane, queued_lane_is}
+use Rattle.core_solo.proofs.Keeps.{flown, only_lane, queued_lane_is}
 use Rattle.core_solo.proofs.Bounds.{stepped}
 use Rattle.system_state.specs.Cores.{core_of}
 use Rattle.system_state.specs.declared.state.State.{State}
@@ -144,21 +144,18 @@ module _ {D : Type 0} (seen : D → DieView) where
       let p = does_send seen o v u lane job acts b t in
       let here = still_alone seen o v u P t al in
       let h : Coherent c = subst Coherent here t.coherent in
-      let s = stepped (λ (x : Core) (n : ℕ). []) t.events c d lane job.request job.request h alone (p.says.1.solo al (λ (x : Core) (n : ℕ). [])) (p.says.1.run al) in
+      let s = stepped (λ (x : Core) (n : ℕ). []) p.events c d lane job.request job.request h alone (p.says.1.solo al (λ (x : Core) (n : ℕ). [])) (p.says.1.run al) in
       let to : d ≡ after (core_after C o (v.seen ++ t.between)) (Submit lane) = leaves seen o v u P (Submit lane) t t.says in
       let to_c : d ≡ after c (Submit lane) = to ∙ ap (λ (z : Core). after z (Submit lane)) here in
       let flies : d.calls lane ≡ Some k.0.away.call = k.0.away.flies in
       record {
         coherent = s.coherent;
         alone = s.alone;
-        flies = flown d lane k.0.away.call flies;
+        flies = flown d.calls lane k.0.away.call flies;
         phase = k.1;
         full = λ e. not_empty c.queue lane (sym (ap (λ (z : Core). z.queue) to_c) ∙ e);
         home = λ die. ap (λ (z : Core). (z.dies die).out) to_c ∙ home die;
       }
-    where
-      flown : (d : Core) (lane : ℕ) (x : Flight) → d.calls lane ≡ Some x → d.calls lane ≡ Some (call_at d lane)
-      flown d lane x e = cc
 
   -- ---- it is served
 
