@@ -1,4 +1,3 @@
 pub mod Running
 pub mod Asking
 pub mod Sending
-pub mod Serving

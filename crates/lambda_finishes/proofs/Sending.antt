@@ -1,6 +1,6 @@
 -- A call goes into the queue, and ends once it is reported.
-use Rattle.std.proofs.Common.{◌≡◌, ℕ, ◌<◌, Bool, true, false, List, [], ◌∷◌, ◌++◌, Option, Some, None, refl, sym, ap, ◌∙◌, subst, length, ◌≤◌, lit≤, ⊎_elim, append-nil, arith}
-use Rattle.std.specs.Prelude.{◌≢◌, if◌then◌else◌, Result, Ok, Err, IfErr}
+use Rattle.std.proofs.Common.{◌≡◌, ℕ, Bool, true, false, List, [], ◌∷◌, ◌++◌, Option, Some, refl, sym, ap, ◌∙◌, subst, length, ◌≤◌, lit≤, ⊎_elim, append-nil, arith}
+use Rattle.std.specs.Prelude.{if◌then◌else◌, Result, Ok, Err}
 use Rattle.std.specs.Result.{IsErr}
 use Rattle.std.specs.declared.snapshot.Snapshot.{Snapshot}
 use Rattle.index_lists.proofs.Puts.{put-same}
@@ -16,7 +16,6 @@ use Rattle.plain_files.specs.declared.calls.Reply.{Reply}
 use Rattle.plain_files.specs.declared.calls.Reply.TheVariants.{Fault}
 use Rattle.plain_files.specs.declared.calls.Request.{Request}
 use Rattle.plain_files.specs.Plain.{answer}
-use Rattle.core_state.specs.declared.actor.Actor.{Actor}
 use Rattle.core_state.specs.declared.actor.Actor.TheVariants.{Lane}
 use Rattle.core_state.specs.declared.event.Event.{Event}
 use Rattle.core_state.specs.declared.event.Event.TheVariants.{Submit, End}
@@ -39,7 +38,7 @@ use Rattle.desk_turns.proofs.Went.{of_on, went_on, went_turn}
 use Rattle.call_job.specs.Suits.{Suits}
 use Rattle.call_job.specs.declared.job.Job.{Job}
 use Rattle.call_job.proofs.Kept.{suits_kept, suits_in_phase}
-use Rattle.call_finishes.specs.Gathering.{call_at, told_at}
+use Rattle.call_finishes.specs.Gathering.{call_at}
 use Rattle.call_finishes.specs.JobTurns.{SuitsInSpan}
 use Rattle.call_finishes.specs.Words.{IsNumbered}
 use Rattle.call_finishes.specs.Finishing.{EndsIn}

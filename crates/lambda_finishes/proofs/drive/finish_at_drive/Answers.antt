@@ -1,4 +1,4 @@
-use Rattle.std.proofs.Common.{refl, sym, subst}
+use Rattle.std.proofs.Common.{sym, subst}
 use Rattle.turn_cell.specs.Passes.{opening_of, view}
 use Rattle.core_state.specs.declared.actor.Actor.TheVariants.{Lane}
 use Rattle.system_state.specs.Cores.{core_of}

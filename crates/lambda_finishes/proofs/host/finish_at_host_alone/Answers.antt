@@ -1,15 +1,12 @@
-use Rattle.std.proofs.Common.{sym, ap, subst, inl}
+use Rattle.std.proofs.Common.{sym, subst, inl}
 use Rattle.std.specs.Prelude.{not}
-use Rattle.turn_cell.specs.Passes.{opening_of, view}
 use Rattle.turn_cell.specs.Desks.{view_alone, opening_alone}
-use Rattle.core_state.specs.declared.actor.Actor.TheVariants.{Lane}
 use Rattle.system_state.specs.Cores.{core_of}
 use Rattle.desk_turns.specs.Passing.{core_seen}
-use Rattle.call_job.specs.declared.job.Job.{Job}
 use Rattle.call_finishes.specs.Books.{opening_in}
 use Rattle.call_finishes.specs.Words.{IsSmall}
-use Rattle.call_finishes.proofs.Ending.{acts_still, ends_there, held_there, none_there, finish_any, fill_worn, numbered_as, home_after}
-use Rattle.lambda_finishes.proofs.Running.{ready_there, runs_still, fresh_still, same_request, does_run, host_says, begun_host, run_request}
+use Rattle.call_finishes.proofs.Ending.{ends_there, held_there, none_there, finish_any, fill_worn, numbered_as, home_after}
+use Rattle.lambda_finishes.proofs.Running.{ready_there, runs_still, fresh_still, does_run, host_says, begun_host, run_request}
 use Rattle.lambda_finishes.proofs.host.finish_at_host_alone.Goals as goal
 
 pub run_gathered-requires-clause-ready : goal.run_gathered-requires-clause-ready
