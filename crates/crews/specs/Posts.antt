@@ -54,6 +54,7 @@ module _ {D J : Type 0} (seen : D → DieView) where
     pub saw : (view pass).seen ≡ []
     pub made : (view pass).own ≡ []
     pub first : (view pass).first ≡ 0
+    pub few : length post.requests.items < 2 ^ 32
     pub empty : post.log.items ≡ []
     pub room : length post.requests.items ≤ vec_capacity post.log
 

@@ -4,10 +4,13 @@
 
 mod hands;
 mod joining;
+mod lane;
 mod looking;
 mod post;
+mod running;
 
 pub use hands::Hands;
 pub use joining::join_all;
+pub use lane::run_lane;
 pub use looking::look;
 pub use post::Post;
