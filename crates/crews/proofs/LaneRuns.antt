@@ -1,5 +1,5 @@
 -- A lane enters, makes its calls, and leaves.
-use Rattle.std.proofs.Common.{◌≡◌, ℕ, ◌<◌, ◌+◌, Bool, true, false, List, [], ◌∷◌, ◌++◌, map, length, Option, Some, None, refl, sym, ap, ◌∙◌, subst, eq-eqb, append-nil, append_assoc}
+use Rattle.std.proofs.Common.{◌≡◌, ℕ, ◌<◌, Bool, List, [], ◌∷◌, ◌++◌, Option, Some, None, refl, sym, ap, ◌∙◌, subst, eq-eqb, append-nil, append_assoc}
 use Rattle.std.specs.Prelude.{if◌then◌else◌, is_some, Result, Ok, Err}
 use Rattle.std.specs.Result.{IsErr}
 use mathlib.Core.List.{map-append}
@@ -20,11 +20,10 @@ use Rattle.core_state.specs.declared.event.Event.{Event}
 use Rattle.core_state.specs.declared.event.Event.TheVariants.{Enter, Leave}
 use Rattle.core_state.specs.State.{Shape, Inside, Gone, LaneState, Core}
 use Rattle.core_state.specs.LaneEvents.{entered, left_by, MayEnter, MayLeave}
-use Rattle.core_state.specs.Happens.{HoldsNone, CoreRun, after}
+use Rattle.core_state.specs.Happens.{HoldsNone, CoreRun}
 use Rattle.core_state.specs.History.{entry_of, and_then, calls_of}
 use Rattle.core_state.specs.Hold.{HeldLane, hold}
 use Rattle.core_state.specs.Coherent.{Coherent}
-use Rattle.desk_turns.specs.Making.{AreOf}
 use Rattle.desk_turns.specs.Passing.{ActsFor, Turn, Went, Does, core_after, core_seen}
 use Rattle.desk_turns.proofs.Holding.{shapes_kept}
 use Rattle.desk_turns.proofs.Later.{own_idle, none_kept, none_of, mark_of, lane_same}
@@ -34,7 +33,7 @@ use Rattle.lane_history.proofs.Cuts.{requests_append}
 use Rattle.page_steps.specs.Making.{IsFree}
 use Rattle.page_steps.specs.Words.{IsNumbered}
 use Rattle.crews.specs.Calls.{HasReplied, CallSays}
-use Rattle.crews.specs.Lanes.{AreLogged, EndsFirst, HasCalled, HasRun, CallsSay, LaneSays}
+use Rattle.crews.specs.Lanes.{AreLogged, HasCalled, HasRun, CallsSay, LaneSays}
 use Rattle.crews.specs.Seats.{IsOutside}
 
 -- ---- a lane in the core
@@ -255,21 +254,21 @@ module _ {S : Type 0} (core : S → Core) (last : ℕ) where
       (HoldsNone (core_after core o h) a → HoldsNone (core_after core o k) a)
       × ((l : ℕ) (requests : List Request) (log : List Numbered) (es : List Event) → a ≡ Lane l → StartsWith k h → HasRun core last o h l requests log es → HasRun core last o k l requests log es)
   gone_again o h k a same coherent = (
-      none_kept (core_after core o h) (core_after core o k) a coherent same (same_shape o k h),
-      λ l requests log es is starts p.
-      let held : hold (core_after core o k) (Lane l) ≡ hold (core_after core o h) (Lane l) = subst (λ (z : Actor). hold (core_after core o k) z ≡ hold (core_after core o h) z) is same in
-      let again = lane_same (core_after core o h) (core_after core o k) l held in
-      record {
-        middle = p.middle;
-        are = p.are;
-        of = p.of;
-        asked = p.asked;
-        logged = logged_seen last h k log (calls_of es) starts p.logged;
-        gone = ap (λ (x : HeldLane). x.stage) again ∙ p.gone;
-        idle = none_of ((core_after core o k).calls l) (ap (λ (x : HeldLane). x.in_flight) again ∙ ap is_some p.idle);
-        none = none_kept (core_after core o h) (core_after core o k) (Lane l) coherent held (same_shape o k h) p.none;
-      },
-    )
+    none_kept (core_after core o h) (core_after core o k) a coherent same (same_shape o k h),
+    λ l requests log es is starts p.
+        let held : hold (core_after core o k) (Lane l) ≡ hold (core_after core o h) (Lane l) = subst (λ (z : Actor). hold (core_after core o k) z ≡ hold (core_after core o h) z) is same in
+        let again = lane_same (core_after core o h) (core_after core o k) l held in
+        record {
+          middle = p.middle;
+          are = p.are;
+          of = p.of;
+          asked = p.asked;
+          logged = logged_seen last h k log (calls_of es) starts p.logged;
+          gone = ap (λ (x : HeldLane). x.stage) again ∙ p.gone;
+          idle = none_of ((core_after core o k).calls l) (ap (λ (x : HeldLane). x.in_flight) again ∙ ap is_some p.idle);
+          none = none_kept (core_after core o h) (core_after core o k) (Lane l) coherent held (same_shape o k h) p.none;
+        },
+  )
 
 module _ {D J : Type 0} (seen : D → DieView) where
   pub numbered_at : (o q : Snapshot (State D J)) (lane : ℕ) (request : Request) (w : View (Snapshot (State D J)) Event) (n : Numbered) → q ≡ o → IsNumbered q.value.last (calls_of (events_of w.seen)) n.number (record { lane = lane; call = request.call; reply = n.reply }) →

@@ -1,8 +1,7 @@
 -- What an actor did, and a last look after it.
-use Rattle.std.proofs.Common.{◌≡◌, ℕ, ◌<◌, ◌+◌, ◌^◌, true, false, List, [], ◌∷◌, ◌++◌, map, length, Some, None, refl, sym, ap, ◌∙◌, subst, ⊎_elim, append-nil, arith}
-use Rattle.std.specs.Prelude.{◌≢◌, Result, Ok, Err}
+use Rattle.std.proofs.Common.{◌≡◌, ℕ, ◌<◌, ◌+◌, ◌^◌, false, List, [], ◌++◌, map, length, sym, ap, ◌∙◌, subst, ⊎_elim, append-nil, arith}
+use Rattle.std.specs.Prelude.{Result, Ok, Err}
 use Rattle.std.specs.declared.snapshot.Snapshot.{Snapshot}
-use Rattle.turn_cell.specs.declared.book.Entry.{Entry}
 use Rattle.turn_cell.specs.declared.view.View.{View}
 use Rattle.turn_cell.specs.declared.pass.Worn.{Worn}
 use Rattle.turn_cell.specs.History.{entry, entries_of}
@@ -14,20 +13,18 @@ use Rattle.core_state.specs.declared.actor.Actor.TheVariants.{Lane, Worker, Flus
 use Rattle.core_state.specs.declared.event.Event.{Event}
 use Rattle.core_state.specs.State.{Core}
 use Rattle.core_state.specs.Happens.{HoldsNone}
-use Rattle.core_state.specs.Hold.{HeldLane, Hold, hold}
-use Rattle.core_state.specs.History.{calls_of}
 use Rattle.system_state.specs.Cores.{core_of}
 use Rattle.system_state.specs.declared.state.State.{State}
 use Rattle.desk_turns.specs.Making.{AreOf}
-use Rattle.desk_turns.specs.Passing.{Acts, ActsFor, IsItsOwn, Went, Does, core_after, core_seen}
-use Rattle.desk_turns.proofs.Later.{own_idle, none_kept, none_of, lane_same}
+use Rattle.desk_turns.specs.Passing.{ActsFor, IsItsOwn, Went, Does, core_after, core_seen}
+use Rattle.desk_turns.proofs.Later.{own_idle}
 use Rattle.desk_turns.proofs.Went.{went_on}
 use Rattle.flusher.specs.Flusher.{LoopSays}
 use Rattle.page_steps.specs.Words.{StillHolds}
 use Rattle.crews.specs.Acts.{HasActed, ActSays}
 use Rattle.crews.specs.Calls.{WorkSays}
 use Rattle.crews.specs.Lanes.{EndsFirst, HasRun, LaneSays}
-use Rattle.crews.specs.Posts.{HasEnded, HasWorked}
+use Rattle.crews.specs.Posts.{HasWorked}
 use Rattle.crews.specs.Seats.{IsUntouched, IsOutside}
 use Rattle.crews.proofs.LaneRuns.{gone_again}
 

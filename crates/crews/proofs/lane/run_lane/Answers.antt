@@ -3,14 +3,14 @@ use Rattle.std.specs.Prelude.{Ok, Err}
 use Rattle.std.specs.declared.snapshot.Snapshot.{Snapshot}
 use Rattle.core_state.specs.declared.actor.Actor.TheVariants.{Lane}
 use Rattle.core_state.specs.declared.event.Event.{Event}
-use Rattle.core_state.specs.declared.event.Event.TheVariants.{Enter, Leave}
+use Rattle.core_state.specs.declared.event.Event.TheVariants.{Enter}
 use Rattle.core_state.specs.State.{Core}
 use Rattle.core_state.specs.LaneEvents.{MayLeave}
 use Rattle.core_state.specs.Happens.{HoldsNone}
 use Rattle.system_state.specs.Cores.{core_of}
 use Rattle.system_state.specs.declared.state.State.{State}
 use Rattle.desk_turns.specs.Passing.{ActsFor, Does, core_seen}
-use Rattle.desk_turns.proofs.Went.{went_turn, went_on}
+use Rattle.desk_turns.proofs.Went.{went_turn}
 use Rattle.page_steps.specs.Making.{IsFree}
 use Rattle.page_steps.specs.Words.{IsSmall}
 use Rattle.crews.specs.Seats.{view_at, opening_at}
