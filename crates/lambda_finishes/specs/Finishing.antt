@@ -1,5 +1,5 @@
 -- A call with a function, once it has begun, gathers its pages, runs and ends, over a desk. This project's own.
-use Rattle.std.specs.Prelude.{◌≡◌, ℕ, Bool, true, List, [], ◌∷◌, ◌++◌, Result, Ok, Err}
+use Rattle.std.specs.Prelude.{◌≡◌, ◌⊎◌, ℕ, Bool, true, List, [], ◌∷◌, ◌++◌, Result, Ok, Err}
 use Rattle.std.specs.declared.snapshot.Snapshot.{Snapshot}
 use Rattle.turn_cell.specs.declared.view.View.{View}
 use Rattle.turn_cell.specs.declared.pass.Worn.{Worn}
@@ -7,13 +7,13 @@ use Rattle.flash_die.specs.Dies.{DieView}
 use Rattle.dispatcher.specs.declared.side.Side.{Side}
 use Rattle.plain_files.specs.declared.calls.Numbered.{Numbered}
 use Rattle.plain_files.specs.declared.calls.Request.{Request}
-use Rattle.core_state.specs.declared.actor.Actor.TheVariants.{Lane}
+use Rattle.core_state.specs.declared.actor.Actor.TheVariants.{Lane, Worker}
 use Rattle.core_state.specs.declared.event.Event.{Event}
 use Rattle.core_state.specs.declared.event.Event.TheVariants.{End}
 use Rattle.core_state.specs.State.{Page, Held, Core}
 use Rattle.core_state.specs.Reach.{is_lambda}
 use Rattle.core_state.specs.Coherent.{Coherent}
-use Rattle.core_state.specs.Happens.{CoreRun}
+use Rattle.core_state.specs.Happens.{CoreRun, actor_of}
 use Rattle.core_state.specs.History.{calls_of}
 use Rattle.core_solo.specs.Solo.{SoloCall}
 use Rattle.system_state.specs.Cores.{core_of}
@@ -32,6 +32,11 @@ pub record IsBegunAt (side : Side) (c : Core) (lane : ℕ) (job : Job) : Type 0 
   pub held : (call_at c lane).phase ≡ Held
   pub side_is : (call_at c lane).claim.side ≡ side
   pub runs : is_lambda (call_at c lane).claim.request.call ≡ true
+
+-- each event is the lane's, or one of worker 0, which serves the call of the lane where the pass is alone
+abbrev pub AreOfCall : ℕ → List Event → Type 0
+AreOfCall lane [] = Unit {0}
+AreOfCall lane (e ∷ es) = ((actor_of e ≡ Lane lane) ⊎ (actor_of e ≡ Worker 0)) × AreOfCall lane es
 
 module _ {D J : Type 0} (seen : D → DieView) where
   abbrev C : State D J → Core

@@ -4,8 +4,10 @@
 
 mod drive;
 mod host;
+mod solo;
 mod waiting;
 
 pub use call_finishes::System;
 pub use drive::finish_at_drive;
 pub use host::{finish_at_host, finish_at_host_alone};
+pub use solo::finish_at_drive_alone;
