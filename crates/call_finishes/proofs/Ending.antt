@@ -131,6 +131,9 @@ end_next encode m c lane request n job p e =
     left true is k = inl is
     left false is k = inr (k refl)
 
+pub begun_at_host : (c : Core) (lane : ℕ) (job : Job) → IsBegun c lane job → IsAtHost c lane job
+begun_at_host c lane job b = record { mark = b.gathering.between.owned.mark; held = b.held; host = b.host; is_on_file = b.is_on_file; request = b.gathering.suits.request }
+
 module _ {D : Type 0} (seen : D → DieView) where
   abbrev C : State D Job → Core
   C = core_of seen
@@ -296,9 +299,6 @@ module _ {D : Type 0} (seen : D → DieView) where
         went = p.went;
         says = (p.says.0, p.says.1, λ al encode. subst (λ (y : Request). IsCutOff encode (core_seen C o v) lane y p.events) (sym b.request) (p.says.2 al (inl (b.held, b.host)) encode));
       }
-
-  pub begun_at_host : (c : Core) (lane : ℕ) (job : Job) → IsBegun c lane job → IsAtHost c lane job
-  begun_at_host c lane job b = record { mark = b.gathering.between.owned.mark; held = b.held; host = b.host; is_on_file = b.is_on_file; request = b.gathering.suits.request }
 
   pub numbered_as : (o q : S) (w : V) (lane : ℕ) (x y : Request) (n : Numbered) → q ≡ o → x ≡ y → IsNumbered q.value.last (calls_of (events_of w.seen)) n.number (record { lane = lane; call = x.call; reply = n.reply }) →
       IsNumbered o.value.last (calls_of (events_of w.seen)) n.number (record { lane = lane; call = y.call; reply = n.reply })

@@ -99,14 +99,14 @@ unmarked (MetaIn actor die good left) c lane f m = go (c.dies die).out
 
 rose : (es : List Event) (c d : Core) (lane : ℕ) → CoreRun c es d → Unmarked c.lanes lane → (d.lanes lane).mark ≡ true → 1 ≤ failures es
 rose [] c d lane r m k = absurd (let z = ap (λ (x : Core). (x.lanes lane).mark) r in cc)
-rose (e ∷ es) c d lane r m k = go (is_failure e) refl
+rose (e ∷ es) c d lane r m k = go (is_failure e) refl (λ f. rose es (after c e) d lane r.1 (unmarked e c lane f m) k)
   where
-    go : (t : Bool) → is_failure e ≡ t → 1 ≤ one_if (is_failure e) + failures es
-    go true f = let z = ap one_if f in omega arith
-    go false f = let z = rose es (after c e) d lane r.1 (unmarked e c lane f m) k in omega arith
+    go : (t : Bool) → is_failure e ≡ t → (is_failure e ≡ false → 1 ≤ failures es) → 1 ≤ one_if (is_failure e) + failures es
+    go true f rest = let z = ap one_if f in omega arith
+    go false f rest = let z = rest f in omega arith
 
 failures_on : (es fs : List Event) → failures (es ++ fs) ≡ failures es + failures fs
-failures_on [] fs = refl
+failures_on [] fs = omega arith
 failures_on (e ∷ es) fs = let z = failures_on es fs in omega arith
 
 events_on : (h k : List (Entry Event)) → failures (events_of (h ++ k)) ≡ failures (events_of h) + failures (events_of k)

@@ -1,6 +1,7 @@
 //! Commands.
 
 use crate::options::{Crew, Setup};
+use crate::places::Width;
 use edge_io::{Bytes, Text};
 use page_base::Geometry;
 
@@ -52,7 +53,7 @@ pub enum Quiet {
     /// `predc PRED WIDTH OUT`
     CompilePred {
         pred: Text,
-        width: u32,
+        width: Width,
         out: Text,
     },
     /// `select IMAGE FILE PRED WIDTH`
@@ -60,7 +61,7 @@ pub enum Quiet {
         image: Text,
         file: Text,
         pred: Text,
-        width: u32,
+        width: Width,
     },
 }
 

@@ -12,6 +12,7 @@ mod quiet;
 pub use command::{Command, Pieces, Quiet, Run, Scan};
 pub use commands::{command_of, quiet_of};
 pub use options::{Crew, DieKind, Setup};
+pub use places::Width;
 
 #[cfg(test)]
 mod tests;

@@ -64,7 +64,8 @@ pub fn decimal_number(word: &[u8]) -> Option<u64>
 
 // A decimal number within bounds.
 pub fn number_in(low: u32, high: u32, word: &[u8]) -> Option<u32>
-    ensures { result ≡ number_in low high word.now }
+    ensures is { result ≡ number_in low high word.now }
+    ensures within { IfSome result (λ n. (low ≤ n) × (n ≤ high)) }
 {
     let n = decimal_number(word)?;
     if u64::from(low) <= n && n <= u64::from(high) {

@@ -1,11 +1,12 @@
 //! Words in the places of names and sizes.
-ghost use Rattle.std.specs.Prelude.{◌≡◌, IfOk};
+ghost use Rattle.std.specs.Prelude.{◌≡◌, ◌≤◌, IfOk};
 ghost use Rattle.command_words.specs.Places.{is_file_word, are_two, are_files, drive_of, width_of};
 
 use crate::numbers::number_in;
 use edge_io::Text;
 use page_base::Geometry;
 use std::alloc::{AllocError, Global};
+use std::marker::Model;
 
 pub fn is_file_word(word: &str) -> bool
     ensures { result ≡ is_file_word word.now }
@@ -42,8 +43,36 @@ pub fn drive_of(blocks: &[u8], dies: &[u8]) -> Option<Geometry>
     Geometry::new(blocks, dies)
 }
 
-pub fn width_of(word: &str) -> Option<u32>
+/// How many bytes a record has, 1 to 4,096. Contracts see it as a number.
+#[derive(Drop)]
+pub struct Width {
+    bytes: u32,
+}
+
+impl Model for Width {
+    ghost use Rattle.std.specs.Prelude.{ℕ, ◌≤◌};
+
+    ghost Value = { ℕ };
+
+    ghost view = { λ w. w.bytes };
+
+    ghost invariant = { λ w. (1 ≤ w.bytes) × (w.bytes ≤ 4096) };
+}
+
+impl Width {
+    /// The number of bytes.
+    pub fn bytes(&self) -> u32
+        ensures value { result ≡ self.now }
+        ensures some { 1 ≤ self.now }
+        ensures short { self.now ≤ 4096 }
+    {
+        self.bytes
+    }
+}
+
+pub fn width_of(word: &str) -> Option<Width>
     ensures { result ≡ width_of word.now }
 {
-    number_in(1, 4096, word.as_bytes())
+    let bytes = number_in(1, 4096, word.as_bytes())?;
+    Some(Width { bytes })
 }

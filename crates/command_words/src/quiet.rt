@@ -5,7 +5,7 @@ ghost use Rattle.command_words.specs.Commands.{make_of, mkimage_of, asm_of, disa
 use crate::command::Quiet;
 use crate::numbers::{decimal_number, number_in};
 use crate::options::{Setup, solo_options};
-use crate::places::{are_files, are_two, drive_of, is_file_word, text, width_of};
+use crate::places::{Width, are_files, are_two, drive_of, is_file_word, text, width_of};
 use page_base::Geometry;
 use std::alloc::{AllocError, Global};
 
@@ -214,7 +214,7 @@ fn predc_named(
     alloc: Global,
     pred: &str,
     out: &str,
-    width: Option<u32>,
+    width: Option<Width>,
 ) -> Result<Option<Quiet>, AllocError>
     ensures ok { IfOk result (λ command. command ≡ predc_named pred.now out.now width) }
     ensures err { OnErr result (IsSome (predc_named pred.now out.now width)) }
@@ -246,7 +246,7 @@ fn select_named(
     image: &str,
     file: &str,
     pred: &str,
-    width: Option<u32>,
+    width: Option<Width>,
 ) -> Result<Option<Quiet>, AllocError>
     ensures ok { IfOk result (λ command. command ≡ select_named image.now file.now pred.now width) }
     ensures err { OnErr result (IsSome (select_named image.now file.now pred.now width)) }

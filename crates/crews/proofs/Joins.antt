@@ -1,6 +1,6 @@
 -- One pass more is joined.
-use Rattle.std.proofs.Common.{◌≡◌, ℕ, zero, suc, ◌+◌, ◌-◌, ◌<◌, ◌≤◌, Bool, true, false, cond, List, [], ◌∷◌, ◌++◌, map, length, Some, refl, sym, ap, ◌∙◌, subst, arith, eq-eqb, ne_eqb, length-append, get_or-set_other, get_or-set_same}
-use Rattle.std.specs.Prelude.{◌≢◌, slice_index_or, nat_le, if◌then◌else◌}
+use Rattle.std.proofs.Common.{◌≡◌, ℕ, zero, suc, ◌+◌, ◌-◌, ◌<◌, ◌≤◌, Bool, true, false, cond, List, [], ◌∷◌, ◌++◌, length, Some, refl, sym, ap, ◌∙◌, subst, arith, eq-eqb, ne_eqb, length-append, get_or-set_other, get_or-set_same}
+use Rattle.std.specs.Prelude.{slice_index_or, nat_le, if◌then◌else◌}
 use mathlib.Core.Logic.{dite}
 use native.Mathlib.Decide.{ℕ_discrete}
 use Rattle.std.proofs.lemmas.Bool.Decides.{nat_tests}
@@ -14,13 +14,12 @@ use Rattle.turn_cell.specs.declared.view.Joined.{Joined}
 use Rattle.turn_cell.specs.declared.view.View.{View}
 use Rattle.turn_cell.specs.Passes.{view, IsPassOf, IsFree}
 use Rattle.turn_cell.specs.Teams.{without, longer, joined_of, joined_to}
-use Rattle.turn_cell.proofs.Plain.{un_some}
 use Rattle.flash_die.specs.Dies.{DieView}
 use Rattle.core_state.specs.declared.event.Event.{Event}
 use Rattle.system_state.specs.declared.state.State.{State}
 use Rattle.page_steps.specs.Books.{opening_in}
 use Rattle.page_steps.specs.SystemOf.{System}
-use Rattle.crews.specs.Crews.{numbers_from, Each, HasPass, IsSamePost, IsServed, IsKept, IsGathering}
+use Rattle.crews.specs.Crews.{numbers_from, HasPass, IsSamePost, IsServed, IsKept, IsGathering}
 use Rattle.crews.specs.declared.post.Post.{Post}
 
 -- ---- numbers
@@ -95,14 +94,14 @@ module _ {D J : Type 0} (seen : D → DieView) (turn : Turn (System D J) (Snapsh
         split = ap (λ (v : V). v.split) e ∙ (ap (without (view s.pass).number) g.split ∙ next_out k (length posts) (view s.pass).number l s.number);
         count = ap length joined ∙ (long ∙ ap (λ n. n + 1) count);
         kept = λ j d y below.
-        subst (λ (js : List (Joined Event)). IsKept seen turn j (slice_index_or posts j d) (slice_index_or js j y)) (sym joined)
-        (below_push (λ i z. IsKept seen turn i (slice_index_or posts i d) z) (view root).joined x k j y count (λ i m. g.kept i d y m)
-        (subst (λ (z : Post D J). IsKept seen turn k z x) (sym (at d)) (kept_of k post s)) below);
+            subst (λ (js : List (Joined Event)). IsKept seen turn j (slice_index_or posts j d) (slice_index_or js j y)) (sym joined)
+            (below_push (λ i z. IsKept seen turn i (slice_index_or posts i d) z) (view root).joined x k j y count (λ i m. g.kept i d y m)
+            (subst (λ (z : Post D J). IsKept seen turn k z x) (sym (at d)) (kept_of k post s)) below);
         within = λ j y below.
-        subst (λ (z : List (Joined Event) × List (Entry Event)). length (slice_index_or z.0 j y).seen ≤ length z.1) (λ i. (sym joined i, sym saw i))
-        (below_push (λ i (z : Joined Event). length z.seen ≤ length (longer (view root).seen (view s.pass).seen)) (view root).joined x k j y count
-        (λ i m. let a = g.within i y m in let b = longer_left (view root).seen (view s.pass).seen in omega arith)
-        (longer_right (view root).seen (view s.pass).seen) below);
+            subst (λ (z : List (Joined Event) × List (Entry Event)). length (slice_index_or z.0 j y).seen ≤ length z.1) (λ i. (sym joined i, sym saw i))
+            (below_push (λ i (z : Joined Event). length z.seen ≤ length (longer (view root).seen (view s.pass).seen)) (view root).joined x k j y count
+            (λ i m. let a = g.within i y m in let b = longer_left (view root).seen (view s.pass).seen in omega arith)
+            (longer_right (view root).seen (view s.pass).seen) below);
       }
 
   abbrev pub IsUntouched : List (Post D J) → List (Post D J) → ℕ → Type 0

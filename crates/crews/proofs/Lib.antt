@@ -1,2 +1,4 @@
 mod Joins
+mod LaneRuns
 mod LastLooks
+mod PostRuns

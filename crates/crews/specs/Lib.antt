@@ -1,5 +1,6 @@
 pub mod Seats
 pub mod Calls
 pub mod Lanes
+pub mod Acts
 pub mod Posts
 pub mod Crews

@@ -1,5 +1,5 @@
 -- A post: an actor with its pass, and what it leaves. This project's own.
-use Rattle.std.specs.Prelude.{◌≡◌, ◌<◌, ◌≤◌, ◌+◌, ◌^◌, ℕ, false, List, [], ◌∷◌, map, length, Some, vec_capacity}
+use Rattle.std.specs.Prelude.{◌≡◌, ◌<◌, ◌≤◌, ◌^◌, ℕ, List, [], map, length, Some, vec_capacity}
 use Rattle.std.specs.declared.snapshot.Snapshot.{Snapshot}
 use Rattle.turn_cell.specs.declared.book.Entry.{Entry}
 use Rattle.turn_cell.specs.declared.pass.Pass.{Pass}
@@ -54,6 +54,7 @@ module _ {D J : Type 0} (seen : D → DieView) where
     pub saw : (view pass).seen ≡ []
     pub made : (view pass).own ≡ []
     pub first : (view pass).first ≡ 0
+    pub few : length post.requests.items < 2 ^ 32
     pub empty : post.log.items ≡ []
     pub room : length post.requests.items ≤ vec_capacity post.log
 

@@ -1,11 +1,11 @@
 -- A call in the drive's hands is asked for.
 use Rattle.std.proofs.Common.{◌≡◌, ℕ, ◌<◌, Bool, true, false, List, [], ◌∷◌, ◌++◌, Option, Some, None, refl, sym, ap, ◌∙◌, subst, append-nil}
-use Rattle.std.specs.Prelude.{if◌then◌else◌, Result, Ok, Err}
+use Rattle.std.specs.Prelude.{map, if◌then◌else◌, Result, Ok, Err}
 use Rattle.std.specs.Result.{IsErr}
 use Rattle.std.specs.declared.snapshot.Snapshot.{Snapshot}
 use Rattle.turn_cell.specs.declared.view.View.{View}
 use Rattle.turn_cell.specs.declared.pass.Worn.{Worn}
-use Rattle.turn_cell.specs.History.{StartsWith}
+use Rattle.turn_cell.specs.History.{StartsWith, entry}
 use Rattle.turn_cell.specs.Events.{events_of}
 use Rattle.flash_die.specs.Dies.{DieView}
 use Rattle.plain_files.specs.declared.calls.Numbered.{Numbered}
@@ -25,7 +25,7 @@ use Rattle.system_state.specs.declared.not_yet.NotYet.{NotYet}
 use Rattle.system_state.specs.declared.state.State.{State}
 use Rattle.desk_turns.specs.Passing.{core_after, core_seen, Turn, Went, Does}
 use Rattle.desk_turns.proofs.Holding.{coherent_all}
-use Rattle.desk_turns.proofs.Went.{went_on, went_none, went_turn, found_turn}
+use Rattle.desk_turns.proofs.Went.{went_on, went_none, went_turn}
 use Rattle.call_job.specs.declared.job.Job.{Job}
 use Rattle.call_finishes.specs.Collecting.{CollectSays}
 use Rattle.call_finishes.specs.Gathering.{call_at}
@@ -37,6 +37,18 @@ use Rattle.call_finishes.proofs.Callers.{starts_on}
 use Rattle.call_finishes.proofs.Trying.{still_alone}
 use Rattle.call_finishes.proofs.Collects.{none_waits, away_waits, claim_waits}
 use Rattle.lambda_finishes.specs.Waiting.{IsOut, IsCollected, AskedSays, CollectedSays}
+
+abbrev told : Option Numbered → Result (Option Numbered) Worn
+told x = Ok x
+
+abbrev reply_ok : Numbered → Result Numbered Worn
+reply_ok n = Ok n
+
+number_is : (m n : Numbered) → reply_ok m ≡ reply_ok n → m ≡ n
+number_is m n e = cc
+
+pub some_told : (x : Option Numbered) (m n : Numbered) → x ≡ Some m → reply_ok m ≡ reply_ok n → told x ≡ told (Some n)
+some_told x m n is e = ap told (is ∙ ap (λ (y : Numbered). Some y) (number_is m n e))
 
 module _ {D : Type 0} (seen : D → DieView) where
   abbrev C : State D Job → Core
@@ -74,10 +86,17 @@ module _ {D : Type 0} (seen : D → DieView) where
       let may = run.0.may in
       let ends = ends_here o v w lane n job t may in
       let went = went_turn C o v w P t in
+      let number : w.number ≡ v.number = ap (λ (z : V). z.number) went.pass in
       record {
         are = is;
         failed = (f.lanes lane).mark;
-        found = found_turn C o v w w P e (EndsIn (f.lanes lane).mark lane request n) t is ends ([], sym (append-nil w.seen)) (ap (λ (z : V). z.number) went.pass);
+        found = record {
+          before = v.seen ++ t.between;
+          rest = [];
+          since = (t.between, refl);
+          seen = t.seen ∙ (λ i. (v.seen ++ t.between) ++ map (entry (sym number i)) (is i));
+          says = ends;
+        };
         begins = t.begins;
         after = subst (λ (z : Core). IsFree z lane) (sym run.1) (free_ended f lane request n.reply (none_waits c f lane t.says.waits out.none) (t.coherent.dies.in_turn lane may.call may.flies));
         coherent = coherent_all t.events f (core_seen C o w) t.coherent t.run;
@@ -109,6 +128,13 @@ module _ {D : Type 0} (seen : D → DieView) where
           λ al. still ∙ still_alone seen o v w P t al,
         );
       }
+
+  -- what it answered
+  pub asked_ok : (o : S) (v w : V) (lane : ℕ) (x : Result (Numbered × Job) NotYet) (y : Numbered × Job) → x ≡ Ok y → IsOut (core_seen C o v) lane (Asks o v lane) → Turn C o v w (CollectSays (core_seen C o v) lane x) → Does v w (AskedSays seen o v w lane (Asks o v lane) (Ok (Some y.0)))
+  asked_ok o v w lane x y is out t = asked_some o v w lane y.0 y.1 out (subst (λ (z : Result (Numbered × Job) NotYet). Turn C o v w (CollectSays (core_seen C o v) lane z)) is t)
+
+  pub asked_not : (o : S) (v w : V) (lane : ℕ) (x : Result (Numbered × Job) NotYet) (y : NotYet) → x ≡ Err y → IsOut (core_seen C o v) lane (Asks o v lane) → Turn C o v w (CollectSays (core_seen C o v) lane x) → Does v w (AskedSays seen o v w lane (Asks o v lane) (Ok None))
+  asked_not o v w lane x y is out t = asked_none o v w lane y out (subst (λ (z : Result (Numbered × Job) NotYet). Turn C o v w (CollectSays (core_seen C o v) lane z)) is t)
 
   -- where the turn is worn
   pub asked_worn : (o : S) (v w : V) (lane : ℕ) (request : Request) (r : Result (Option Numbered) Worn) → IsErr r → Went v w [] → Does v w (AskedSays seen o v w lane request r)

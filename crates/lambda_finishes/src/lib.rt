@@ -9,5 +9,5 @@ mod waiting;
 
 pub use call_finishes::System;
 pub use drive::finish_at_drive;
-pub use solo::finish_at_drive_alone;
 pub use host::{finish_at_host, finish_at_host_alone};
+pub use solo::finish_at_drive_alone;

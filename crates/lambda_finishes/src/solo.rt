@@ -26,10 +26,7 @@ use plain_files::Numbered;
 use turn_cell::{Alone, Worn};
 
 /// Ends a call that was reported.
-fn collect_reported<D: Die>(
-    alone: &mut Alone<System<D, Job>>,
-    lane: u32,
-) -> Result<Numbered, Worn>
+fn collect_reported<D: Die>(alone: &mut Alone<System<D, Job>>, lane: u32) -> Result<Numbered, Worn>
     requires free { IsFreeAlone opening_in alone.old }
     requires out { IsOut (core_seen (core_of D.seen) (opening_alone opening_in alone.old) (view_alone alone.old)) lane (call_at (core_seen (core_of D.seen) (opening_alone opening_in alone.old) (view_alone alone.old)) lane).claim.request }
     requires reported { is_reported (call_at (core_seen (core_of D.seen) (opening_alone opening_in alone.old) (view_alone alone.old)) lane).phase ≡ true }

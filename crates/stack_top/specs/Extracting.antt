@@ -5,8 +5,7 @@ use Rattle.elf_bpf.specs.declared.fault.ElfErr.TheVariants as err
 use Rattle.elf_bpf.specs.Reading.{elf_code}
 use Rattle.sbpf_insn.specs.declared.insn.Insn.{Insn}
 use Rattle.sbpf_load.specs.Objects.{object_bytes}
-use Rattle.stack_top.specs.Acts.{name_of, written_and_told}
-use Rattle.stack_top.specs.Assembling.{slots_line}
+use Rattle.stack_top.specs.Acts.{name_of, written_and_told, slots_line}
 use Rattle.stack_top.specs.declared.refusal.ObjectFault.TheVariants as object
 use Rattle.stack_top.specs.declared.refusal.Refusal.{Refusal}
 use Rattle.stack_top.specs.declared.refusal.Refusal.TheVariants as refused

@@ -24,7 +24,7 @@ fn asked(
 }
 
 // Whether the words end so and print this, over a room that holds a text under the name S.
-fn gives(
+pub(crate) fn gives(
     alloc: Global,
     line: &str,
     room: &mut MemRoom,
@@ -48,7 +48,7 @@ fn held(alloc: Global, room: &mut MemRoom, name: &str) -> Result<Vec<u8>, AllocE
     }
 }
 
-fn empty_room(alloc: Global) -> MemRoom {
+pub(crate) fn empty_room(alloc: Global) -> MemRoom {
     MemRoom::new(Vec::new(alloc), Vec::new(alloc), Vec::new(alloc))
 }
 

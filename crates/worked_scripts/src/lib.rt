@@ -4,4 +4,6 @@
 #[cfg(test)]
 mod image_tests;
 #[cfg(test)]
+mod predicate_tests;
+#[cfg(test)]
 mod tests;

@@ -1,8 +1,7 @@
 use Rattle.std.proofs.Common.{refl, inl}
 use Rattle.system_state.specs.Cores.{core_of}
-use Rattle.desk_turns.proofs.Went.{worn_went}
 use Rattle.page_steps.proofs.Keeping.{closes}
-use Rattle.page_steps.proofs.Taking.{gave_back, turned_back, coherent_back}
+use Rattle.page_steps.proofs.Taking.{turned_back, coherent_back}
 use Rattle.page_steps.specs.LaneTurns.{ClosingSays}
 use Rattle.crews.proofs.LastLooks.{looked_went, looked_closing, looked_kept, looked_settled, looked_allowed, worn_kept}
 use Rattle.crews.proofs.looking.look.Goals as goal
@@ -11,7 +10,6 @@ pub returns-in_err-system-clause-kept : goal.returns-in_err-system-clause-kept
 returns-in_err-system-clause-kept g c =
     let a = c.in_err-system.ensures in
     worn_kept g.D.Die.seen g.J.CallJob.suits (g.K.Desk.opening c.take.new.self) (g.K.Desk.opening c.args.desk.now) (g.K.Desk.view c.args.desk.now) (g.K.Desk.view c.take.new.self) a.turn.1 a.stood a.seen a.between a.alone
-
 
 pub returns-clause-went : goal.returns-clause-went
 returns-clause-went g c =

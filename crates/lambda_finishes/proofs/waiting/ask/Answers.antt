@@ -1,8 +1,10 @@
-use Rattle.lambda_finishes.proofs.Asking.{asked_some, asked_none, asked_worn, number_asked}
+use Rattle.lambda_finishes.proofs.Asking.{asked_ok, asked_not}
 use Rattle.lambda_finishes.proofs.waiting.ask.Goals as goal
 
-pub turn_collect_job-requires-clause-hands : goal.turn_collect_job-requires-clause-hands
-turn_collect_job-requires-clause-hands g c = c.requires.out.none
+pub returns-in-Ok-clause-did : goal.returns-in-Ok-clause-did
+returns-in-Ok-clause-did g c =
+    asked_ok g.D.Die.seen (g.K.Desk.opening c.args.desk.now) (g.K.Desk.view c.args.desk.now) (g.K.Desk.view c.turn_collect_job.new.desk) c.args.lane c.in_ok-answer.answer _ c.in-Ok.is c.requires.out c.in_ok-answer.ensures.did
 
-pub turn_collect_job-requires-clause-away : goal.turn_collect_job-requires-clause-away
-turn_collect_job-requires-clause-away g c = c.requires.out.away
+pub returns-in-Err-clause-did : goal.returns-in-Err-clause-did
+returns-in-Err-clause-did g c =
+    asked_not g.D.Die.seen (g.K.Desk.opening c.args.desk.now) (g.K.Desk.view c.args.desk.now) (g.K.Desk.view c.turn_collect_job.new.desk) c.args.lane c.in_ok-answer.answer _ c.in-Err.is c.requires.out c.in_ok-answer.ensures.did

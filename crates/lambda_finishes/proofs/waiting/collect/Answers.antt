@@ -11,7 +11,7 @@ use Rattle.call_job.specs.declared.job.Job.{Job}
 use Rattle.call_finishes.specs.Books.{opening_in}
 use Rattle.call_finishes.specs.Words.{IsSmall}
 use Rattle.call_finishes.specs.Gathering.{call_at}
-use Rattle.lambda_finishes.proofs.Asking.{Waits, waits_none, out_there, waits_on, waits_done, waits_worn, number_there}
+use Rattle.lambda_finishes.proofs.Asking.{Waits, waits_none, out_there, waits_on, waits_done, waits_worn, number_there, some_told}
 use Rattle.lambda_finishes.proofs.waiting.collect.Goals as goal
 
 pub loop-init : goal.loop-init
@@ -40,12 +40,12 @@ returns-in_err-asked-clause-did g c =
     let v = view c.args.desk.now.pass in
     waits_worn g.D.Die.seen o (opening_of opening_in c.loop.desk.turn.now) v (view c.loop.desk.pass) (view c.ask.new.desk.pass) c.args.lane (call_at (core_seen (core_of g.D.Die.seen) o v) c.args.lane).claim.request c.in_err-asked.field-0.0 c.from_residual.result i.2.1 c.from_residual.ensures.0 i.3 c.in_err-asked.ensures.did
 
-pub returns-in-Some-clause-did : goal.returns-in-Some-clause-did
-returns-in-Some-clause-did g c =
+pub returns-in-Some-asked-clause-did : goal.returns-in-Some-asked-clause-did
+returns-in-Some-asked-clause-did g c =
     let i = c.loop.invariant in
     let o = opening_of opening_in c.args.desk.now.turn.now in
     let v = view c.args.desk.now.pass in
-    waits_done g.D.Die.seen o (opening_of opening_in c.loop.desk.turn.now) v (view c.loop.desk.pass) (view c.ask.new.desk.pass) c.args.lane (call_at (core_seen (core_of g.D.Die.seen) o v) c.args.lane).claim.request c.in_ok-asked.asked c.in-Some.numbered i.2.1 c.in-Some.is i.3 c.in_ok-asked.ensures.did
+    waits_done g.D.Die.seen o (opening_of opening_in c.loop.desk.turn.now) v (view c.loop.desk.pass) (view c.ask.new.desk.pass) c.args.lane (call_at (core_seen (core_of g.D.Die.seen) o v) c.args.lane).claim.request c.in_ok-asked.asked c.in-Some-asked.numbered i.2.1 c.in-Some-asked.is i.3 c.in_ok-asked.ensures.did
 
 pub loop-preserved : goal.loop-preserved
 loop-preserved g c =
@@ -59,5 +59,13 @@ loop-preserved g c =
       p.free e.free,
       (p.turn.0 ∙ (e.turn.0 ∙ i.2.0), p.turn.1 ∙ (e.turn.1 ∙ i.2.1)),
       subst (λ (z : View (Snapshot (State g.row.D.Denot Job)) Event). Waits g.D.Die.seen o v z c.args.lane request) (sym p.view)
-          (waits_on g.D.Die.seen o (opening_of opening_in c.loop.desk.turn.now) v (view c.loop.desk.pass) (view c.ask.new.desk.pass) c.args.lane request c.in_ok-asked.asked i.2.1 c.in-None.is i.3 c.in_ok-asked.ensures.did),
+          (waits_on g.D.Die.seen o (opening_of opening_in c.loop.desk.turn.now) v (view c.loop.desk.pass) (view c.ask.new.desk.pass) c.args.lane request c.in_ok-asked.asked i.2.1 c.in-None-asked.is i.3 c.in_ok-asked.ensures.did),
     )
+
+pub returns-in-Some-asked-clause-numbered : goal.returns-in-Some-asked-clause-numbered
+returns-in-Some-asked-clause-numbered g c = λ n is.
+    let i = c.loop.invariant in
+    let o = opening_of opening_in c.args.desk.now.turn.now in
+    let v = view c.args.desk.now.pass in
+    number_there g.D.Die.seen o (opening_of opening_in c.loop.desk.turn.now) v (view c.loop.desk.pass) (view c.ask.new.desk.pass) c.args.lane (call_at (core_seen (core_of g.D.Die.seen) o v) c.args.lane).claim.request n i.2.1 i.3
+    (c.in_ok-asked.ensures.numbered n (some_told c.in_ok-asked.asked c.in-Some-asked.numbered n c.in-Some-asked.is is))

@@ -1,0 +1,3 @@
+pub mod Cuts
+pub mod Few
+pub mod Turns
