@@ -1,6 +1,6 @@
 -- What the calls over the desk of the only pass say of a line of a script.
-use Rattle.std.proofs.Common.{◌≡◌, ℕ, ◌+◌, ◌≤◌, Bool, true, false, List, [], ◌∷◌, ◌++◌, Option, Some, None, length, refl, sym, ap, ◌∙◌, subst, inl, inr, ⊎_elim, arith, lit≤, length-append}
-use Rattle.std.specs.Prelude.{◌⊎◌, Result, Ok, Err}
+use Rattle.std.proofs.Common.{◌≡◌, ℕ, ◌≤◌, true, false, List, [], ◌∷◌, ◌++◌, Option, Some, length, sym, ap, ◌∙◌, subst, inl, inr, ⊎_elim, arith, lit≤, length-append}
+use Rattle.std.specs.Prelude.{Result, Ok, Err}
 use Rattle.std.specs.declared.snapshot.Snapshot.{Snapshot}
 use Rattle.turn_cell.specs.declared.view.View.{View}
 use Rattle.turn_cell.specs.declared.pass.Worn.{Worn}
@@ -10,13 +10,11 @@ use Rattle.plain_files.specs.declared.calls.Reply.{Reply}
 use Rattle.plain_files.specs.declared.calls.Reply.TheVariants.{NoMemory}
 use Rattle.plain_files.specs.declared.calls.Request.{Request}
 use Rattle.plain_files.specs.History.{Entry}
-use Rattle.core_state.specs.declared.actor.Actor.TheVariants.{Lane}
 use Rattle.core_state.specs.declared.event.Event.{Event}
-use Rattle.core_state.specs.declared.event.Event.TheVariants.{Quick, Skip}
-use Rattle.core_state.specs.State.{Out, Core}
-use Rattle.core_state.specs.Happens.{HoldsNone, CoreRun, after_all}
+use Rattle.core_state.specs.declared.event.Event.TheVariants.{Skip}
+use Rattle.core_state.specs.State.{Core}
+use Rattle.core_state.specs.Happens.{after_all}
 use Rattle.core_state.specs.History.{entry_of, and_then, calls_of}
-use Rattle.core_solo.specs.Solo.{SoloCall}
 use Rattle.core_solo.specs.Alone.{HasFrames, OpeningFrames, IsAlone}
 use Rattle.core_solo.proofs.Asks.{calls_both}
 use Rattle.core_solo.proofs.Bounds.{steps_short}
@@ -28,9 +26,9 @@ use Rattle.system_metas.specs.Encode.{encode}
 use Rattle.desk_turns.specs.Passing.{core_seen, Does}
 use Rattle.data_calls.specs.Making.{IsFree}
 use Rattle.data_calls.specs.Cut.{IsCutOff}
-use Rattle.data_calls.specs.Answers.{HasReplied, HasNotReplied, DataSays}
+use Rattle.data_calls.specs.Answers.{HasReplied, DataSays}
 use Rattle.quick_calls.specs.Calls.{IsEndedBy, QuickCallSays, SkipCallSays}
-use Rattle.sync_calls.specs.Sync.{HasSynced, SyncCallSays}
+use Rattle.sync_calls.specs.Sync.{SyncCallSays}
 use Rattle.solo_runs.specs.Line.{MayAnswer, HasAnswered, LineSays}
 
 -- ---- a lane that may be answered
