@@ -1,1 +1,4 @@
 pub mod Whole
+pub use Rattle.call_starts.proofs.Ending
+pub use Rattle.call_starts.proofs.FlushSteps
+pub use Rattle.call_starts.proofs.Rooming

@@ -1,5 +1,5 @@
 -- A data call, from its parts.
-use Rattle.std.proofs.Common.{◌≡◌, ℕ, ◌<◌, ◌≤◌, Bool, true, false, List, [], ◌∷◌, ◌++◌, Option, Some, None, refl, sym, ap, ◌∙◌, subst, inl, inr, append_assoc, arith, lit≤}
+use Rattle.std.proofs.Common.{◌≡◌, ℕ, Bool, true, false, List, [], ◌∷◌, ◌++◌, Option, Some, None, refl, sym, ap, ◌∙◌, subst, inl, inr, append_assoc, arith, lit≤}
 use Rattle.std.specs.Prelude.{Result, Ok, Err, unwrap_or}
 use Rattle.std.specs.Result.{IsErr}
 use Rattle.std.specs.declared.snapshot.Snapshot.{Snapshot}
@@ -19,7 +19,7 @@ use Rattle.plain_files.specs.History.{Entry}
 use Rattle.core_state.specs.declared.actor.Actor.TheVariants.{Lane}
 use Rattle.core_state.specs.declared.event.Event.{Event}
 use Rattle.core_state.specs.declared.event.Event.TheVariants.{Begin, End}
-use Rattle.core_state.specs.State.{Page, Held, Phase, Flight, Core}
+use Rattle.core_state.specs.State.{Held, Flight, Core}
 use Rattle.core_state.specs.Reach.{is_data, is_lambda}
 use Rattle.core_state.specs.PageEvents.{no_flight}
 use Rattle.core_state.specs.InFlight.{claim_of}
@@ -29,6 +29,7 @@ use Rattle.core_state.specs.Happens.{May, CoreRun, actor_of, after_all}
 use Rattle.core_state.specs.History.{entry_of, and_then, calls_of}
 use Rattle.core_state.proofs.Runs.{leads_to}
 use Rattle.core_solo.specs.Solo.{Steps, IsStep, IsNext}
+use Rattle.core_solo.proofs.Asks.{calls_both}
 use Rattle.core_solo.proofs.Folds.{append, after_both}
 use Rattle.system_state.specs.Cores.{core_of}
 use Rattle.system_state.specs.declared.state.State.{State}
@@ -93,7 +94,7 @@ self_prepared request job p = subst (λ (r : Request). IsPrepared r job) (sym p.
 
 -- ---- over the core alone
 
-calls_on : (es fs : List Event) → calls_of es ≡ [] → calls_of fs ≡ [] → calls_of (es ++ fs) ≡ []
+pub calls_on : (es fs : List Event) → calls_of es ≡ [] → calls_of fs ≡ [] → calls_of (es ++ fs) ≡ []
 calls_on [] fs p q = q
 calls_on (e ∷ es) fs p q = go (entry_of e) (λ k. calls_on es fs k q) p
   where
@@ -101,20 +102,25 @@ calls_on (e ∷ es) fs p q = go (entry_of e) (λ k. calls_on es fs k q) p
     go None more k = more k
     go (Some x) more k = absurd (cc)
 
-end_of : (stage : Stage) (lane : ℕ) (request : Request) (n : Numbered) → actor_of (ended_event stage lane request n) ≡ Lane lane
+-- events of which the last alone ends a call
+pub last_ends : (es before : List Event) (last : Event) (x : Entry) → es ≡ before ++ last ∷ [] → calls_of before ≡ [] → entry_of last ≡ Some x → calls_of es ≡ x ∷ []
+last_ends es before last x are none ends =
+    ap calls_of are ∙ (calls_both before (last ∷ []) ∙ (ap (λ (xs : List Entry). xs ++ calls_of (last ∷ [])) none ∙ ap (λ (o : Option Entry). and_then o []) ends))
+
+pub end_of : (stage : Stage) (lane : ℕ) (request : Request) (n : Numbered) → actor_of (ended_event stage lane request n) ≡ Lane lane
 end_of Idle lane request n = refl
 end_of Marked lane request n = refl
 
-marked_of : (stage : Stage) → is_marked stage ≡ true → stage ≡ Marked
+pub marked_of : (stage : Stage) → is_marked stage ≡ true → stage ≡ Marked
 marked_of Idle e = absurd (cc)
 marked_of Marked e = refl
 
-end_replies : (c : Core) (lane : ℕ) (request : Request) (n : Numbered) (stage : Stage) → (stage ≡ Marked → n.reply ≡ Fault) → May c (ended_event stage lane request n) → Replies (is_marked stage) lane request n (ended_event stage lane request n) c
-end_replies c lane request n Idle f may = record { may = may; entry_is = refl; reply_is = may.reply_is }
+pub end_replies : (c : Core) (lane : ℕ) (request : Request) (n : Numbered) (stage : Stage) → (stage ≡ Marked → n.reply ≡ Fault) → May c (ended_event stage lane request n) → Replies (is_marked stage) lane request n (ended_event stage lane request n) c
+end_replies c lane request n Idle f may = record { may = may; asked = refl; entry_is = refl; reply_is = may.reply_is }
 end_replies c lane request n Marked f may =
-    record { may = may; entry_is = ap (λ (r : Reply). Some (record { lane = lane; call = request.call; reply = r })) (sym (f refl)); reply_is = f refl }
+    record { may = may; asked = refl; entry_is = ap (λ (r : Reply). Some (record { lane = lane; call = request.call; reply = r })) (sym (f refl)); reply_is = f refl }
 
-at_call : (c : Core) (lane : ℕ) (x : Flight) → c.calls lane ≡ Some x → call_at c lane ≡ x
+pub at_call : (c : Core) (lane : ℕ) (x : Flight) → c.calls lane ≡ Some x → call_at c lane ≡ x
 at_call c lane x e = ap (λ (o : Option Flight). unwrap_or o no_flight) e
 
 at_host : (s : Side) → (s ≡ Drive → ⊥) → s ≡ Host
@@ -209,7 +215,7 @@ module _ {D : Type 0} (seen : D → DieView) where
           rest = f.found.rest;
           since = starts_on v.seen u.seen f.found.before went.seen f.found.since;
           seen = f.found.seen;
-          says = record { may = f.found.says.may; entry_is = refl; reply_is = f.found.says.reply_is };
+          says = record { may = f.found.says.may; asked = refl; entry_is = refl; reply_is = f.found.says.reply_is };
         };
         after = f.after;
         coherent = f.coherent;

@@ -15,8 +15,8 @@ use Rattle.core_state.specs.State.{Page, Core}
 use Rattle.core_state.specs.PlainOf.{plain}
 use Rattle.core_state.specs.Coherent.{Coherent}
 use Rattle.core_state.specs.Happens.{May, CoreRun}
-use Rattle.core_state.specs.History.{entry_of, calls_of}
-use Rattle.core_solo.specs.Solo.{SoloCall, SoloAnswer}
+use Rattle.core_state.specs.History.{request_of, entry_of, calls_of}
+use Rattle.core_solo.specs.Solo.{SoloCall}
 use Rattle.system_state.specs.Cores.{core_of}
 use Rattle.system_state.specs.declared.state.State.{State}
 use Rattle.desk_turns.specs.Making.{AreOf}
@@ -26,10 +26,11 @@ use Rattle.call_starts.specs.Cut.{IsCutOff}
 use Rattle.call_starts.specs.Flushing.{HasFailed}
 use Rattle.call_starts.specs.Making.{IsFree}
 
--- In core c the event may end the lane's call, with this reply: `fault` where a write or a read for the call has failed, and else the one of
+-- In core c the event may end the lane's call for this request, with this reply: `fault` where a write or a read for the call has failed, and else the one of
 -- the plain machine.
 pub record Replies (failed : Bool) (lane : ℕ) (request : Request) (n : Numbered) (last : Event) (c : Core) : Type 0 where
   pub may : May c last
+  pub asked : request_of last ≡ Some request
   pub entry_is : entry_of last ≡ Some (record { lane = lane; call = request.call; reply = n.reply })
   pub reply_is : n.reply ≡ (if failed then Fault else (answer (plain c) request.call).reply)
 

@@ -1,7 +1,13 @@
 pub mod Kinds
 pub mod Answers
+pub use Rattle.call_starts.specs.Armed
+pub use Rattle.call_starts.specs.BeginStage
+pub use Rattle.call_starts.specs.Books
+pub use Rattle.call_starts.specs.Calls
 pub use Rattle.call_starts.specs.Cut
 pub use Rattle.call_starts.specs.Flushing
 pub use Rattle.call_starts.specs.Making
+pub use Rattle.call_starts.specs.Starting
+pub use Rattle.call_starts.specs.Steps
 pub use Rattle.call_starts.specs.Words
-pub use Rattle.call_starts.specs.Books
+pub use Rattle.call_starts.specs.declared.start.Beginning as BeginAnswer

@@ -7,7 +7,9 @@
 mod data;
 mod kinds;
 
-pub use call_starts::System;
+pub use call_starts::{
+    Beginning, System, begin_call, begin_call_alone, skip_call, skip_call_alone,
+};
 pub use kinds::{
     append_call, append_call_alone, read_call, read_call_alone, trunc_call, trunc_call_alone,
     write_call, write_call_alone,

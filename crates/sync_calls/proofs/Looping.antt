@@ -223,6 +223,9 @@ module _ {D J : Type 0} (seen : D → DieView) where
         went = went_on v u w es fs p.went q'.went;
         says = record {
           of = of_on (Lane lane) es fs g.of (subst (λ (xs : List Event). AreOf (Lane lane) xs) (sym n.ended.are) (refl, tt));
+          before = es;
+          are = ap (λ (xs : List Event). es ++ xs) n.ended.are;
+          open_still = g.silent;
           one = calls_both es fs ∙ (λ i. g.silent i ++ calls_of (n.ended.are i));
           fault = is_failed stage;
           reply_is = n.reply_is;

@@ -1,5 +1,5 @@
 -- A `sync` over a desk, from before it begins to its end. This project's own.
-use Rattle.std.specs.Prelude.{◌≡◌, ◌≤◌, ℕ, Bool, true, List, [], ◌∷◌, length, None, Result, Ok, Err}
+use Rattle.std.specs.Prelude.{◌≡◌, ◌≤◌, ℕ, Bool, true, List, [], ◌∷◌, ◌++◌, length, None, Result, Ok, Err}
 use Rattle.std.specs.declared.snapshot.Snapshot.{Snapshot}
 use Rattle.turn_cell.specs.declared.view.View.{View}
 use Rattle.turn_cell.specs.declared.pass.Worn.{Worn}
@@ -36,6 +36,9 @@ module _ {D J : Type 0} (seen : D → DieView) where
   -- pass is alone its events are the call of the run of one thread, whole.
   pub record HasSynced (o : Snapshot (State D J)) (v w : View (Snapshot (State D J)) Event) (lane : ℕ) (request : Request) (n : Numbered) (es : List Event) : Type 0 where
     pub of : AreOf (Lane lane) es
+    pub before : List Event
+    pub are : es ≡ before ++ End lane request n.reply ∷ []
+    pub open_still : calls_of before ≡ []
     pub one : calls_of es ≡ record { lane = lane; call = request.call; reply = n.reply } ∷ []
     pub fault : Bool
     pub reply_is : n.reply ≡ sync_reply fault

@@ -13,6 +13,7 @@ mod step;
 mod sync;
 mod write;
 
+pub use quick_calls::{Loading, System, quick_call, quick_call_alone, skip_call, skip_call_alone};
 pub use stages::{Stage, SyncStep};
 pub use step::sync_step;
 pub use sync::{sync_call, sync_call_alone};

@@ -2,9 +2,6 @@ use Rattle.std.proofs.Common.{◌≡◌, true, false, refl, sym, subst}
 use Rattle.turn_cell.specs.Passes.{opening_of, view}
 use Rattle.plain_files.specs.declared.calls.Request.{Request}
 use Rattle.core_state.specs.Reach.{is_data, is_lambda}
-use Rattle.core_solo.specs.Alone.{IsAlone}
-use Rattle.system_state.specs.Cores.{core_of}
-use Rattle.desk_turns.specs.Passing.{core_seen}
 use Rattle.call_starts.specs.Books.{opening_in}
 use Rattle.data_calls.proofs.Whole.{self_prepared, data_prepared, data_skipped, numbered_as}
 use Rattle.data_calls.proofs.data.data_call.Goals as goal

@@ -1,8 +1,8 @@
-use Rattle.std.proofs.Common.{◌≡◌, ℕ, None, sym, subst}
+use Rattle.std.proofs.Common.{sym, subst}
 use Rattle.turn_cell.specs.Passes.{opening_of, view}
 use Rattle.core_state.specs.declared.actor.Actor.TheVariants.{Lane}
 use Rattle.system_state.specs.Cores.{core_of}
-use Rattle.desk_turns.specs.Passing.{ActsFor, core_seen}
+use Rattle.desk_turns.specs.Passing.{ActsFor}
 use Rattle.call_starts.specs.Books.{opening_in}
 use Rattle.call_starts.specs.Words.{IsSmall}
 use Rattle.call_starts.proofs.Ending.{acts_after}

@@ -1,11 +1,9 @@
 use Rattle.std.proofs.Common.{◌≡◌, ℕ, None, sym, subst}
 use Rattle.turn_cell.specs.Desks.{view_alone, opening_alone}
-use Rattle.core_state.specs.declared.actor.Actor.TheVariants.{Lane}
 use Rattle.system_state.specs.Cores.{core_of}
-use Rattle.desk_turns.specs.Passing.{ActsFor, core_seen}
+use Rattle.desk_turns.specs.Passing.{core_seen}
 use Rattle.call_starts.specs.Books.{opening_in}
 use Rattle.call_starts.specs.Words.{IsSmall}
-use Rattle.call_starts.proofs.Ending.{acts_after}
 use Rattle.data_calls.proofs.Whole.{start_worn, ended_call, ended_told, begun_there, asked_there, begun_call, numbered_as}
 use Rattle.data_calls.proofs.data.prepared_call_alone.Goals as goal
 

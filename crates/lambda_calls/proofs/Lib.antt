@@ -1,0 +1,2 @@
+pub mod Whole
+pub use Rattle.data_calls.proofs.Whole as DataWhole
