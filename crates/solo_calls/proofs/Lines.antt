@@ -1,5 +1,5 @@
 -- What the calls over the desk of the only pass say of a line of a script.
-use Rattle.std.proofs.Common.{◌≡◌, ℕ, ◌≤◌, true, false, List, [], ◌∷◌, ◌++◌, Option, Some, length, sym, ap, ◌∙◌, subst, inl, inr, ⊎_elim, arith, lit≤, length-append}
+use Rattle.std.proofs.Common.{◌≡◌, ℕ, ◌≤◌, true, false, List, [], ◌∷◌, length, sym, ap, ◌∙◌, subst, inl, inr, ⊎_elim, arith, lit≤, length-append}
 use Rattle.std.specs.Prelude.{Result, Ok, Err}
 use Rattle.std.specs.declared.snapshot.Snapshot.{Snapshot}
 use Rattle.turn_cell.specs.declared.view.View.{View}
@@ -9,14 +9,12 @@ use Rattle.plain_files.specs.declared.calls.Numbered.{Numbered}
 use Rattle.plain_files.specs.declared.calls.Reply.{Reply}
 use Rattle.plain_files.specs.declared.calls.Reply.TheVariants.{NoMemory}
 use Rattle.plain_files.specs.declared.calls.Request.{Request}
-use Rattle.plain_files.specs.History.{Entry}
 use Rattle.core_state.specs.declared.event.Event.{Event}
 use Rattle.core_state.specs.declared.event.Event.TheVariants.{Skip}
 use Rattle.core_state.specs.State.{Core}
 use Rattle.core_state.specs.Happens.{after_all}
-use Rattle.core_state.specs.History.{entry_of, and_then, calls_of}
+use Rattle.core_state.specs.History.{calls_of}
 use Rattle.core_solo.specs.Alone.{HasFrames, OpeningFrames, IsAlone}
-use Rattle.core_solo.proofs.Asks.{calls_both}
 use Rattle.core_solo.proofs.Bounds.{steps_short}
 use Rattle.core_solo.proofs.Rests.{shape_all, rest_alone}
 use Rattle.turn_cell.specs.Events.{events_of}
@@ -24,10 +22,12 @@ use Rattle.system_state.specs.Cores.{core_of}
 use Rattle.system_state.specs.declared.state.State.{State}
 use Rattle.system_metas.specs.Encode.{encode}
 use Rattle.desk_turns.specs.Passing.{core_seen, Does}
-use Rattle.data_calls.specs.Making.{IsFree}
-use Rattle.data_calls.specs.Cut.{IsCutOff}
-use Rattle.data_calls.specs.Answers.{HasReplied, DataSays}
-use Rattle.quick_calls.specs.Calls.{IsEndedBy, QuickCallSays, SkipCallSays}
+use Rattle.lambda_calls.specs.Making.{IsFree}
+use Rattle.lambda_calls.specs.Cut.{IsCutOff}
+use Rattle.lambda_calls.proofs.DataWhole.{last_ends}
+use Rattle.lambda_calls.specs.DataAnswers.{HasReplied, DataSays}
+use Rattle.lambda_calls.specs.Calls.{IsEndedBy, QuickCallSays, SkipCallSays}
+use Rattle.lambda_calls.specs.Answers.{HasReplied as HasRun, CallSays}
 use Rattle.sync_calls.specs.Sync.{SyncCallSays}
 use Rattle.solo_runs.specs.Line.{MayAnswer, HasAnswered, LineSays}
 
@@ -55,12 +55,6 @@ cut_short c lane request es m cut =
 
 none_short : (es : List Event) → es ≡ [] → length es ≤ 4096
 none_short es e = subst (λ (xs : List Event). length xs ≤ 4096) (sym e) (lit≤ tt)
-
--- ---- which calls they end
-
-last_ends : (es before : List Event) (last : Event) (x : Entry) → es ≡ before ++ last ∷ [] → calls_of before ≡ [] → entry_of last ≡ Some x → calls_of es ≡ x ∷ []
-last_ends es before last x are none ends =
-    ap calls_of are ∙ (calls_both before (last ∷ []) ∙ (ap (λ (xs : List Entry). xs ++ calls_of (last ∷ [])) none ∙ ap (λ (o : Option Entry). and_then o []) ends))
 
 module _ {D J : Type 0} (seen : D → DieView) where
   abbrev C : State D J → Core
@@ -121,3 +115,16 @@ module _ {D J : Type 0} (seen : D → DieView) where
 
   pub data_says : (o : Snapshot (State D J)) (v w : View (Snapshot (State D J)) Event) (lane : ℕ) (request : Request) (r : Result Numbered Worn) → v.alone ≡ true → MayAnswer (core_seen C o v) lane request → Does v w (DataSays seen o v w lane request r) → Does v w (LineSays seen o v w lane request r)
   data_says o v w lane request r a m p = record { events = p.events; went = p.went; says = data_answered o v w lane request r p.events a m p.says }
+
+  -- ---- a call that runs a function
+
+  ran : (o : Snapshot (State D J)) (v w : View (Snapshot (State D J)) Event) (lane : ℕ) (request : Request) (n : Numbered) (es : List Event) → v.alone ≡ true → HasRun seen o v w lane request n es → HasAnswered seen o v w lane request n es
+  ran o v w lane request n es a p =
+      record { solo = inr (p.solo a encode); run = p.run a; one = last_ends es p.before p.last (record { lane = lane; call = request.call; reply = n.reply }) p.are p.open_still p.found.says.entry_is }
+
+  lambda_answered : (AreMine : List Event → Type 0) (o : Snapshot (State D J)) (v w : View (Snapshot (State D J)) Event) (lane : ℕ) (request : Request) (r : Result Numbered Worn) (es : List Event) → v.alone ≡ true → MayAnswer (core_seen C o v) lane request → CallSays seen AreMine o v w lane request r es → LineSays seen o v w lane request r es
+  lambda_answered AreMine o v w lane request (Ok n) es a m p = ⊎_elim (λ s. skip_answered o v w lane request n es a s.0 s.1) (λ s. ran o v w lane request n es a s) p.1
+  lambda_answered AreMine o v w lane request (Err x) es a m p = cut_short (core_seen C o v) lane request es m (p.1.cut a encode)
+
+  pub lambda_says : (AreMine : List Event → Type 0) (o : Snapshot (State D J)) (v w : View (Snapshot (State D J)) Event) (lane : ℕ) (request : Request) (r : Result Numbered Worn) → v.alone ≡ true → MayAnswer (core_seen C o v) lane request → Does v w (CallSays seen AreMine o v w lane request r) → Does v w (LineSays seen o v w lane request r)
+  lambda_says AreMine o v w lane request r a m p = record { events = p.events; went = p.went; says = lambda_answered AreMine o v w lane request r p.events a m p.says }

@@ -1,22 +1,23 @@
 //! The buffers of the calls of a script, and which call answers a line.
-ghost use Rattle.std.specs.Prelude.{◌≡◌, false, IfErr};
+ghost use Rattle.std.specs.Prelude.{◌≡◌, IfErr};
 ghost use Rattle.turn_cell.specs.Desks.{IsFreeAlone, view_alone, opening_alone, table_alone};
 ghost use Rattle.turn_cell.specs.Steps.{IsWorn};
-ghost use Rattle.core_state.specs.Reach.{is_lambda};
 ghost use Rattle.system_state.specs.Cores.{core_of};
 ghost use Rattle.desk_turns.specs.Passing.{core_seen, Does};
-ghost use Rattle.data_calls.specs.Books.{opening_in};
-ghost use Rattle.data_calls.specs.Words.{IsSmall};
+ghost use Rattle.lambda_calls.specs.Books.{opening_in};
+ghost use Rattle.lambda_calls.specs.Words.{IsSmall};
 ghost use Rattle.solo_runs.specs.Line.{MayAnswer, LineSays};
 
 use crate::data::data_line;
+use crate::lambda::lambda_line;
 use crate::quick::quick_line;
 use crate::sync::sync_line;
 use call_job::Job;
-use data_calls::System;
 use flash_die::Die;
+use lambda_calls::System;
 use page_base::{NoMemory, Page};
 use plain_files::{Call, Numbered, Request};
+use solo_runs::LineCalls;
 use std::alloc::Global;
 use turn_cell::{Alone, Worn};
 
@@ -35,10 +36,10 @@ impl Calls {
         let pages = Vec::new(alloc);
         Ok(Calls { alloc, page, pages })
     }
+}
 
-    /// Answers the next call of a lane, which is alone and runs no function: its events are those of the run of one thread. At `Worn` it has
-    /// made no more than a whole call has.
-    pub fn plain_line<D: Die>(
+impl<D: Die> LineCalls<D, Job> for Calls {
+    fn answer(
         &mut self,
         alone: &mut Alone<System<D, Job>>,
         lane: u32,
@@ -46,7 +47,6 @@ impl Calls {
     ) -> Result<Numbered, Worn>
         requires free { IsFreeAlone opening_in alone.old }
         requires may { MayAnswer (core_seen (core_of D.seen) (opening_alone opening_in alone.old) (view_alone alone.old)) lane request.now }
-        requires plain { is_lambda request.now.call ≡ false }
         requires small { IsSmall (opening_alone opening_in alone.old).value }
         ensures free { IsFreeAlone opening_in alone.new }
         ensures worn { IfErr result (λ x. IsWorn x.count (view_alone alone.new)) }
@@ -57,6 +57,9 @@ impl Calls {
             Call::Sync => sync_line(alone, lane, request, &mut self.page, &mut self.pages),
             Call::Read(..) | Call::Write(..) | Call::Append(..) | Call::Trunc(..) => {
                 data_line(self.alloc, alone, lane, request, &mut self.page)
+            }
+            Call::Readl { .. } | Call::Writel { .. } => {
+                lambda_line(self.alloc, alone, lane, request, &mut self.page)
             }
             _ => quick_line(self.alloc, alone, lane, request),
         }

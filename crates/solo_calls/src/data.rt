@@ -5,13 +5,15 @@ ghost use Rattle.turn_cell.specs.Steps.{IsWorn};
 ghost use Rattle.core_state.specs.Reach.{is_data, is_lambda};
 ghost use Rattle.system_state.specs.Cores.{core_of};
 ghost use Rattle.desk_turns.specs.Passing.{core_seen, Does};
-ghost use Rattle.data_calls.specs.Books.{opening_in};
-ghost use Rattle.data_calls.specs.Words.{IsSmall};
+ghost use Rattle.lambda_calls.specs.Books.{opening_in};
+ghost use Rattle.lambda_calls.specs.Words.{IsSmall};
 ghost use Rattle.solo_runs.specs.Line.{MayAnswer, LineSays};
 
 use call_job::Job;
-use data_calls::{System, append_call_alone, read_call_alone, trunc_call_alone, write_call_alone};
 use flash_die::Die;
+use lambda_calls::{
+    System, append_call_alone, read_call_alone, trunc_call_alone, write_call_alone,
+};
 use page_base::Page;
 use plain_files::{Call, Numbered, Request};
 use std::alloc::Global;

@@ -3,10 +3,12 @@
 
 mod calls;
 mod data;
+mod lambda;
 mod quick;
 mod sync;
 
 pub use calls::Calls;
 pub use data::data_line;
+pub use lambda::lambda_line;
 pub use quick::quick_line;
 pub use sync::sync_line;

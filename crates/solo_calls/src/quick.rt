@@ -5,15 +5,15 @@ ghost use Rattle.turn_cell.specs.Steps.{IsWorn};
 ghost use Rattle.core_state.specs.LaneEvents.{is_quick};
 ghost use Rattle.system_state.specs.Cores.{core_of};
 ghost use Rattle.desk_turns.specs.Passing.{core_seen, Does};
-ghost use Rattle.data_calls.specs.Books.{opening_in};
-ghost use Rattle.data_calls.specs.Words.{IsSmall};
+ghost use Rattle.lambda_calls.specs.Books.{opening_in};
+ghost use Rattle.lambda_calls.specs.Words.{IsSmall};
 ghost use Rattle.solo_runs.specs.Line.{MayAnswer, LineSays};
 
 use flash_die::Die;
 use load_decoding::loading_of;
 use plain_files::{Numbered, Request};
-use quick_calls::{Loading, System, quick_call_alone, skip_call_alone};
 use std::alloc::Global;
+use sync_calls::{Loading, System, quick_call_alone, skip_call_alone};
 use system_state::CallJob;
 use turn_cell::{Alone, Worn};
 

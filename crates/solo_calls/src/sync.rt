@@ -5,15 +5,14 @@ ghost use Rattle.turn_cell.specs.Steps.{IsWorn};
 ghost use Rattle.core_state.specs.Reach.{is_sync};
 ghost use Rattle.system_state.specs.Cores.{core_of};
 ghost use Rattle.desk_turns.specs.Passing.{core_seen, Does};
-ghost use Rattle.data_calls.specs.Books.{opening_in};
-ghost use Rattle.data_calls.specs.Words.{IsSmall};
+ghost use Rattle.lambda_calls.specs.Books.{opening_in};
+ghost use Rattle.lambda_calls.specs.Words.{IsSmall};
 ghost use Rattle.solo_runs.specs.Line.{MayAnswer, LineSays};
 
 use flash_die::Die;
 use page_base::Page;
 use plain_files::{Numbered, Request};
-use quick_calls::System;
-use sync_calls::sync_call_alone;
+use sync_calls::{System, sync_call_alone};
 use system_state::CallJob;
 use turn_cell::{Alone, Worn};
 

@@ -1,19 +1,18 @@
 -- The core between two lines.
-use Rattle.std.proofs.Common.{◌≡◌, ℕ, ◌+◌, ◌<◌, ◌≤◌, List, [], ◌∷◌, ◌++◌, Option, Some, None, length, refl, sym, ap, ◌∙◌, subst, arith}
+use Rattle.std.proofs.Common.{◌≡◌, ℕ, ◌+◌, ◌<◌, ◌≤◌, List, [], ◌∷◌, ◌++◌, Option, Some, None, sym, ap, ◌∙◌, subst, arith}
 use Rattle.std.specs.Prelude.{◌==◌, IfSome}
 use Rattle.index_lists.specs.Words.{one_if}
 use Rattle.plain_files.specs.declared.calls.Reply.{Reply}
 use Rattle.plain_files.specs.declared.calls.Request.{Request}
-use Rattle.plain_files.specs.History.{Entry}
 use Rattle.core_state.specs.declared.event.Event.{Event}
-use Rattle.core_state.specs.State.{Shape, LaneState, Core}
+use Rattle.core_state.specs.State.{Shape, Core}
 use Rattle.core_state.specs.Happens.{CoreRun, after_all}
 use Rattle.core_state.specs.History.{calls_of}
 use Rattle.core_state.proofs.Runs.{leads_to}
 use Rattle.core_lemmas.proofs.Words.{same_some}
 use Rattle.core_stores.proofs.Folds.{run_keeps}
 use Rattle.core_solo.specs.Solo.{Script, request_at, SoloAnswer}
-use Rattle.core_solo.specs.Alone.{OpeningFrames, IsAtRest}
+use Rattle.core_solo.specs.Alone.{OpeningFrames}
 use Rattle.core_solo.specs.Settling.{lines_of}
 use Rattle.core_solo.proofs.Rests.{shape_all}
 use Rattle.core_solo.proofs.Calls.{answer_rest, line_low}

@@ -3,3 +3,4 @@ pub mod Between
 pub mod Logging
 pub mod Lining
 pub mod Running
+pub mod Whole

@@ -1,5 +1,5 @@
 -- Lines, one after the other, by the only pass.
-use Rattle.std.proofs.Common.{◌≡◌, ℕ, zero, suc, ◌+◌, ◌*◌, ◌<◌, ◌≤◌, true, List, [], ◌∷◌, ◌++◌, Option, Some, None, length, get_or, take, drop, refl, sym, ap, ◌∙◌, subst, arith, append-nil, length-append, map}
+use Rattle.std.proofs.Common.{◌≡◌, ℕ, zero, suc, ◌+◌, ◌*◌, ◌<◌, ◌≤◌, true, List, [], ◌∷◌, ◌++◌, Option, Some, length, get_or, take, drop, refl, sym, ap, ◌∙◌, subst, arith, length-append, map}
 use Rattle.std.specs.Prelude.{◌-◌, Result, Ok, Err, slice_get, unwrap_or, option_map, vec_capacity}
 use Rattle.std.specs.Result.{IsErr}
 use Rattle.std.proofs.lemmas.Option.{slice_get-map, slice_get_within, slice_get_read}
@@ -16,7 +16,7 @@ use Rattle.script_words.specs.declared.script.Script.{Script as ScriptLines}
 use Rattle.script_words.specs.Lanes.{requests}
 use Rattle.core_state.specs.declared.event.Event.{Event}
 use Rattle.core_state.specs.State.{Core}
-use Rattle.core_state.specs.Happens.{CoreRun, after, after_all}
+use Rattle.core_state.specs.Happens.{CoreRun, after}
 use Rattle.core_state.specs.History.{calls_of}
 use Rattle.core_state.proofs.Runs.{leads_to}
 use Rattle.core_solo.specs.Solo.{Script, request_at, SoloLine}
@@ -32,7 +32,7 @@ use Rattle.desk_turns.proofs.Turning.{events_more}
 use Rattle.desk_turns.proofs.Went.{went_on, went_none}
 use Rattle.solo_runs.specs.declared.logs.LaneLog.{LaneLog}
 use Rattle.solo_runs.specs.Line.{HasAnswered}
-use Rattle.solo_runs.specs.Logs.{replies_to, AreLogs, HaveRoom}
+use Rattle.solo_runs.specs.Logs.{AreLogs, HaveRoom}
 use Rattle.solo_runs.specs.Lines.{script_of, IsOrdered, IsBetween, AreCallsOf, HasMadeLine, HaveMade, OneSays, LinesSay}
 use Rattle.solo_runs.proofs.Between.{between_next}
 use Rattle.solo_runs.proofs.Logging.{lines_left}

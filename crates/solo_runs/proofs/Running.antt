@@ -1,5 +1,5 @@
 -- The parts of a run, one after the other.
-use Rattle.std.proofs.Common.{◌≡◌, ℕ, zero, suc, ◌+◌, ◌*◌, ◌<◌, ◌≤◌, ◌^◌, Bool, true, false, List, [], ◌∷◌, ◌++◌, Option, Some, None, length, refl, sym, ap, ◌∙◌, subst, inl, inr, ⊎_elim, arith, append-nil, append_assoc, length-append, map}
+use Rattle.std.proofs.Common.{◌≡◌, ℕ, zero, suc, ◌+◌, ◌*◌, ◌≤◌, Bool, true, false, List, [], ◌∷◌, ◌++◌, Option, None, length, refl, sym, ap, ◌∙◌, subst, inl, inr, arith, append-nil, append_assoc, length-append, map}
 use Rattle.std.specs.Prelude.{Result, Ok, Err, IfOk}
 use Rattle.std.specs.Result.{IsErr}
 use Rattle.std.specs.List.{range_with_len}
@@ -12,7 +12,6 @@ use Rattle.turn_cell.specs.declared.pass.Worn.{Worn}
 use Rattle.turn_cell.specs.Events.{events_of}
 use Rattle.turn_cell.specs.History.{entry}
 use Rattle.flash_die.specs.Dies.{DieView}
-use Rattle.page_base.specs.Drive.{meta_pages}
 use Rattle.core_state.specs.declared.actor.Actor.TheVariants.{Closer}
 use Rattle.core_state.specs.declared.event.Event.{Event}
 use Rattle.core_state.specs.declared.event.Event.TheVariants.{Enter, Leave, Quick, Skip, End}
@@ -26,11 +25,9 @@ use Rattle.core_stores.proofs.Folds.{run_keeps}
 use Rattle.core_solo.specs.Solo.{Script, SoloLines, SoloRun, SoloEnd, SyncEnds, SyncFails, enters, leaves}
 use Rattle.core_solo.specs.Alone.{OpeningFrames}
 use Rattle.core_solo.specs.Settling.{IsSettling}
-use Rattle.core_solo.specs.Stored.{IsAllStored}
 use Rattle.core_solo.proofs.Rests.{shape_all}
 use Rattle.core_solo.proofs.Calls.{line_low, lines_rest}
-use Rattle.core_solo.proofs.Whole.{HasParts, parts_of}
-use Rattle.core_solo.proofs.Folds.{after_both}
+use Rattle.core_solo.proofs.Whole.{parts_of}
 use Rattle.core_closing.specs.Kept.{MaySettle, IsFailedWrite}
 use Rattle.core_closing.proofs.Keeps.{none_yet as none_stored}
 use Rattle.system_state.specs.Cores.{core_of}
@@ -39,14 +36,14 @@ use Rattle.system_metas.specs.Encode.{encode}
 use Rattle.desk_turns.specs.Making.{AreOf}
 use Rattle.desk_turns.specs.Passing.{core_seen, Went, Does}
 use Rattle.desk_turns.proofs.Turning.{events_more}
-use Rattle.desk_turns.proofs.Went.{went_on, went_none}
+use Rattle.desk_turns.proofs.Went.{went_on}
 use Rattle.settling.specs.Settle.{HasSettled, HasNotSettled, SettleSays}
 use Rattle.settling.specs.Steps.{EndsInFailure}
 use Rattle.settling.specs.declared.last_sync.Settled.{Settled}
 use Rattle.settling.specs.declared.last_sync.Settled.TheVariants.{NotAsked, Done, Failed}
-use Rattle.solo_lanes.specs.Lanes.{AreHome, AreMade, HaveEntered, HaveLeft, IsUnentered, MayAllLeave, EnterSays, LeaveSays}
+use Rattle.solo_lanes.specs.Lanes.{AreHome, HaveEntered, HaveLeft, IsUnentered, MayAllLeave, EnterSays, LeaveSays}
 use Rattle.solo_runs.specs.Lines.{IsBetween, HaveMade, LinesSay}
-use Rattle.solo_runs.specs.Run.{MayRun, HasRunScript, ScriptSays, EndsAs, HasRun, RunSays}
+use Rattle.solo_runs.specs.Run.{MayRun, HasRunScript, ScriptSays, HasRun, RunSays}
 use Rattle.solo_runs.proofs.Lining.{run_on, calls_seen, lines_long}
 
 -- ---- lanes come and go
@@ -253,15 +250,17 @@ module _ {D J : Type 0} (seen : D → DieView) where
           parts = ap (λ (xs : List Event). xs ++ q.events) p.says.parts;
           calls = p.says.calls;
           ending = inl (subst (λ (k : Core). SyncEnds encode k q.events) (script_led o v u script p.events p.says) (q.says.solo (too a p.went)));
-          ends = (refl, q.says.unfailed (subst (λ (k : Core). HoldsNone k Closer) opened (none_holds (core_seen C o v) m.fresh.home)), q.says.all (none_stored encode (core_seen C o u) p.says.closer), home, q.says.ready.closing.none);
+          ends = (refl, q.says.unfailed (subst (λ (k : Core). HoldsNone k Closer) opened (none_holds (core_seen C o v) m.fresh.home)), q.says.all (none_stored encode (core_seen C o u) p.says.closer));
+          idle = q.says.ready.closing.none;
+          home = home;
         };
       }
     where
       too : v.alone ≡ true → {es : List Event} → Went v u es → u.alone ≡ true
       too a went = ap (λ (z : View (Snapshot (State D J)) Event). z.alone) went.pass ∙ a
 
-  pub run_failed : (o : Snapshot (State D J)) (v u w : View (Snapshot (State D J)) Event) (script : Script) → v.alone ≡ true → Does v u (HasRunScript seen o v u script) → Does u w (HasNotSettled seen o u w) → Does v w (HasRun seen o v w script true Failed)
-  run_failed o v u w script a p q =
+  pub run_failed : (o : Snapshot (State D J)) (v u w : View (Snapshot (State D J)) Event) (script : Script) → v.alone ≡ true → Does v u (HasRunScript seen o v u script) → Does u w (HasNotSettled seen o u w) → AreHome (core_seen C o w) → Does v w (HasRun seen o v w script true Failed)
+  run_failed o v u w script a p q home =
       record {
         events = p.events ++ q.events;
         went = went_on v u w p.events q.events p.went q.went;
@@ -272,6 +271,8 @@ module _ {D J : Type 0} (seen : D → DieView) where
           calls = p.says.calls;
           ending = inr (subst (λ (k : Core). SyncFails encode k q.events) (script_led o v u script p.events p.says) (q.says.solo (ap (λ (z : View (Snapshot (State D J)) Event). z.alone) p.went.pass ∙ a)));
           ends = (refl, q.says.last);
+          idle = q.says.ready.closing.none;
+          home = home;
         };
       }
 
@@ -310,6 +311,8 @@ module _ {D J : Type 0} (seen : D → DieView) where
           calls = p.says.calls;
           ending = subst (λ (t : Bool). SoloEnd encode t (after_all (core_seen C o v) (enters (length script.lanes) ++ (p.says.lines ++ leaves (length script.lanes)))) []) (sym asked) refl;
           ends = (asked, unfailed (length script.lanes) v u o script p.events refl none (p.went.alone a) p.says);
+          idle = p.says.ready.closing.none;
+          home = p.says.home;
         };
       }
 
@@ -324,7 +327,7 @@ module _ {D J : Type 0} (seen : D → DieView) where
       go : (r : Result Settled Worn) → Does u w (SettleSays seen o u w r) → IfOk r (λ _. AreHome (core_seen C o w)) → Does v w (RunSays seen o v w script true r)
       go (Ok NotAsked) s home = absurd s.says
       go (Ok Done) s home = run_done o v u w script a none m p s home
-      go (Ok Failed) s home = run_failed o v u w script a p s
+      go (Ok Failed) s home = run_failed o v u w script a p s home
       go (Err x) s home = record {
         events = p.events ++ s.events;
         went = went_on v u w p.events s.events p.went s.went;

@@ -57,13 +57,13 @@ module _ {D J : Type 0} (seen : D → DieView) where
   ScriptSays o v w script (Ok x) es = HasRunScript o v w script es
   ScriptSays o v w script (Err x) es = length es ≤ 4096 * length script.order + 2 * length script.lanes
 
-  -- how the run ended, with a last sync where it was asked for
+  -- how the run ended, with a last sync where it was asked for: that is, what the last event is, and whether all is stored
   abbrev pub EndsAs : Snapshot (State D J) → View (Snapshot (State D J)) Event → Bool → Settled → Type 0
   EndsAs o w last NotAsked = (last ≡ false) × (EndsInFailure w.seen → ⊥)
-  EndsAs o w last Done = (last ≡ true) × (EndsInFailure w.seen → ⊥) × IsAllStored encode (core_seen (core_of seen) o w) × AreHome (core_seen (core_of seen) o w) × ((l : ℕ) → (core_seen (core_of seen) o w).calls l ≡ None)
+  EndsAs o w last Done = (last ≡ true) × (EndsInFailure w.seen → ⊥) × IsAllStored encode (core_seen (core_of seen) o w)
   EndsAs o w last Failed = (last ≡ true) × EndsInFailure w.seen
 
-  -- the whole run was made
+  -- the whole run was made, however it ended; no call is in flight, and all dies are at home
   pub record HasRun (o : Snapshot (State D J)) (v w : View (Snapshot (State D J)) Event) (script : Script) (last : Bool) (settled : Settled) (es : List Event) : Type 0 where
     pub lines : List Event
     pub settling : List Event
@@ -71,6 +71,8 @@ module _ {D J : Type 0} (seen : D → DieView) where
     pub calls : SoloLines encode (after_all (core_seen (core_of seen) o v) (enters (length script.lanes))) script script.order lines
     pub ending : SoloEnd encode last (after_all (core_seen (core_of seen) o v) (enters (length script.lanes) ++ (lines ++ leaves (length script.lanes)))) settling
     pub ends : EndsAs o w last settled
+    pub idle : (lane : ℕ) → (core_seen (core_of seen) o w).calls lane ≡ None
+    pub home : AreHome (core_seen (core_of seen) o w)
 
   abbrev pub RunSays : Snapshot (State D J) → View (Snapshot (State D J)) Event → View (Snapshot (State D J)) Event → Script → Bool → Result Settled Worn → List Event → Type 0
   RunSays o v w script last (Ok s) es = HasRun o v w script last s es

@@ -11,7 +11,7 @@ ghost use Rattle.settling.specs.Books.{opening_in};
 ghost use Rattle.settling.specs.Words.{IsSmall};
 ghost use Rattle.solo_runs.specs.Logs.{AreLogs, HaveRoom};
 ghost use Rattle.solo_runs.specs.Lines.{script_of};
-ghost use Rattle.solo_runs.specs.Run.{MayRun, IsRunnable, ScriptSays, RunSays};
+ghost use Rattle.solo_runs.specs.Run.{MayRun, IsRunnable, ScriptSays, HasRun, RunSays};
 
 use crate::line_calls::LineCalls;
 use crate::lines::run_lines;
@@ -82,4 +82,34 @@ pub fn make_run<D: Die, J: CallJob, C: LineCalls<D, J>>(
         return settle_alone(alone, page);
     }
     Ok(Settled::NotAsked)
+}
+
+/// The same, in a turn that began at 0. It is never worn, since a run has too few events.
+pub(crate) fn run_whole<D: Die, J: CallJob, C: LineCalls<D, J>>(
+    alone: &mut Alone<System<D, J>>,
+    calls: &mut C,
+    script: &Script,
+    logs: &mut Vec<LaneLog>,
+    last: u64,
+    page: &mut Page,
+    settles: bool,
+) -> Settled
+    requires free { IsFreeAlone opening_in alone.old }
+    requires small { IsSmall (opening_alone opening_in alone.old).value }
+    requires script { IsRunnable (script_of script.now) }
+    requires may { MayRun (script_of script.now) (core_seen (core_of D.seen) (opening_alone opening_in alone.old) (view_alone alone.old)) }
+    requires none { (view_alone alone.old).seen ≡ [] }
+    requires first { (view_alone alone.old).first ≡ 0 }
+    requires logs { AreLogs (length script.now.lanes) last [] logs.old.items }
+    requires room { HaveRoom (requests script.now) logs.old.items }
+    requires few { last ≤ 2 ^ 62 }
+    ensures free { IsFreeAlone opening_in alone.new }
+    ensures turn { opening_alone opening_in alone.new ≡ opening_alone opening_in alone.old }
+    ensures did { Does (view_alone alone.old) (view_alone alone.new) (HasRun D.seen (opening_alone opening_in alone.old) (view_alone alone.old) (view_alone alone.new) (script_of script.now) settles result) }
+    ensures logs { AreLogs (length script.now.lanes) last (calls_of (events_of (view_alone alone.new).seen)) logs.new.items }
+{
+    match make_run(alone, calls, script, logs, last, page, settles) {
+        Ok(settled) => settled,
+        Err(_) => unreachable!(),
+    }
 }

@@ -1,7 +1,7 @@
 use Rattle.turn_cell.specs.Desks.{view_alone, opening_alone}
 use Rattle.system_state.specs.Cores.{core_of}
 use Rattle.desk_turns.specs.Passing.{core_seen}
-use Rattle.data_calls.specs.Books.{opening_in}
+use Rattle.lambda_calls.specs.Books.{opening_in}
 use Rattle.solo_calls.proofs.Lines.{free_of, alone_of, quick_says, skip_says}
 use Rattle.solo_calls.proofs.quick.quick_line.Goals as goal
 

@@ -1,11 +1,9 @@
-use Rattle.std.proofs.Common.{◌≡◌, ℕ, ◌+◌, ◌<◌, ◌≤◌, [], ◌∷◌, ◌++◌, List, length, get_or, take, drop, refl, sym, ap, ◌∙◌, subst, arith}
-use Rattle.std.specs.declared.snapshot.Snapshot.{Snapshot}
+use Rattle.std.proofs.Common.{◌≡◌, ℕ, ◌+◌, ◌<◌, [], ◌∷◌, ◌++◌, List, length, get_or, take, drop, refl, sym, ap, ◌∙◌, subst, arith}
 use Rattle.turn_cell.specs.Desks.{view_alone, opening_alone}
 use Rattle.turn_cell.specs.Events.{events_of}
 use Rattle.plain_files.specs.History.{Entry}
 use Rattle.core_state.specs.History.{calls_of}
 use Rattle.system_state.specs.Cores.{core_of}
-use Rattle.system_state.specs.declared.state.State.{State}
 use Rattle.desk_turns.specs.Passing.{core_seen, Does}
 use Rattle.settling.specs.Books.{opening_in}
 use Rattle.settling.specs.Words.{IsSmall}

@@ -1,5 +1,4 @@
 use Rattle.std.proofs.Common.{◌≡◌, ◌+◌, ◌≤◌, [], ◌∷◌, refl, sym, ap, ◌∙◌, subst, length, arith, length-append}
-use Rattle.std.specs.Prelude.{vec_capacity}
 use Rattle.solo_runs.specs.declared.logs.LaneLog.{LaneLog}
 use Rattle.solo_runs.specs.Logs.{AreLogs, HaveRoom}
 use Rattle.script_words.specs.declared.script.Lane.{Lane}

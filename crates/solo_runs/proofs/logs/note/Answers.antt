@@ -1,4 +1,4 @@
-use Rattle.std.proofs.Common.{◌≡◌, ◌<◌, ◌≤◌, length, ap, refl, subst, arith}
+use Rattle.std.proofs.Common.{◌≤◌, length, refl, arith}
 use Rattle.std.specs.Prelude.{vec_capacity}
 use Rattle.plain_files.specs.History.{requests_of}
 use Rattle.solo_runs.specs.declared.logs.LaneLog.{LaneLog}

@@ -1,7 +1,7 @@
-use Rattle.std.proofs.Common.{◌≡◌, ◌≤◌, ◌^◌, List, length, refl, sym, ap, ◌∙◌, subst}
+use Rattle.std.proofs.Common.{◌≤◌, ◌^◌, List, length, sym, subst}
 use Rattle.turn_cell.specs.Desks.{view_alone, opening_alone}
 use Rattle.system_state.specs.Cores.{core_of}
-use Rattle.desk_turns.specs.Passing.{core_seen, Does}
+use Rattle.desk_turns.specs.Passing.{core_seen}
 use Rattle.core_closing.specs.Kept.{MaySettle}
 use Rattle.settling.specs.Books.{opening_in}
 use Rattle.solo_lanes.specs.Lanes.{AreHome}

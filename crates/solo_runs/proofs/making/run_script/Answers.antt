@@ -1,19 +1,14 @@
-use Rattle.std.proofs.Common.{◌≡◌, ◌<◌, ◌≤◌, ◌^◌, List, [], length, refl, sym, ap, ◌∙◌, subst, arith}
+use Rattle.std.proofs.Common.{◌≡◌, List, [], length, sym, ◌∙◌, subst}
 use Rattle.std.specs.Prelude.{Err}
-use Rattle.std.specs.declared.snapshot.Snapshot.{Snapshot}
 use Rattle.turn_cell.specs.Desks.{view_alone, opening_alone}
-use Rattle.core_state.specs.State.{Shape}
-use Rattle.core_solo.specs.Alone.{IsAtRest}
-use Rattle.core_solo.proofs.Rests.{shape_all}
 use Rattle.system_state.specs.Cores.{core_of}
-use Rattle.system_state.specs.declared.state.State.{State}
 use Rattle.desk_turns.specs.Passing.{core_seen, Does}
 use Rattle.settling.specs.Books.{opening_in}
 use Rattle.settling.specs.Words.{IsSmall}
-use Rattle.solo_lanes.specs.Lanes.{IsUnentered, MayAllLeave, HaveLeft, LeaveSays}
+use Rattle.solo_lanes.specs.Lanes.{MayAllLeave, HaveLeft, LeaveSays}
 use Rattle.plain_files.specs.History.{Entry}
 use Rattle.solo_runs.specs.Logs.{AreLogs}
-use Rattle.solo_runs.specs.Lines.{script_of, IsBetween, HaveMade, LinesSay}
+use Rattle.solo_runs.specs.Lines.{script_of, IsBetween, HaveMade}
 use Rattle.solo_runs.proofs.Lining.{requests_long}
 use Rattle.solo_runs.proofs.Running.{unentered, first_between, none_yet, may_leave, script_run, worn_entering, worn_in_lines, worn_leaving, left_calls}
 use Rattle.solo_runs.proofs.making.run_script.Goals as goal
