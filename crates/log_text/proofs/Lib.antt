@@ -1,0 +1,4 @@
+pub mod Told
+pub mod Noting
+pub mod Lining
+pub mod Lanes
