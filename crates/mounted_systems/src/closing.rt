@@ -1,13 +1,12 @@
 //! The image of a system's dies.
-ghost use Rattle.std.specs.Prelude.{◌≡◌, ◌<◌, ℕ, None, Ok, Err, IfOk, IfSome};
+ghost use Rattle.std.specs.Prelude.{◌≡◌, ℕ, None, Ok, Err, IfOk};
 ghost use Rattle.image_format.specs.Image.{mounts_to};
 ghost use Rattle.drive_array.specs.declared.gathering.GatherErr.TheVariants.{Die as FailedDie};
-ghost use Rattle.drive_array.specs.Reads.{share_of, FailsWithin, GivesAll};
 ghost use Rattle.core_state.specs.PlainOf.{plain};
-ghost use Rattle.system_state.specs.Slots.{die_at};
 ghost use Rattle.system_state.specs.Cores.{core_of};
 ghost use Rattle.system_state.specs.Settled.{flash_bytes, mounted_of, Settled};
 ghost use Rattle.system_state.specs.Stands.{IsStanding};
+ghost use Rattle.mounted_systems.specs.Gathered.{HasStopped, HasGiven};
 
 use drive_array::{GatherErr, gather};
 use flash_die::Die;
@@ -18,7 +17,8 @@ use system_state::{CallJob, State};
 /// The image of a system's dies, all of which are at home, with no call in flight: the pages of flash in their order. Where all is stored, it
 /// mounts to the last files.
 ///
-/// `GatherErr::Die`: that die's count of faults rose at a read of its share; where a plan is told, the plan lists that read.
+/// `GatherErr::Die`: that die's count of faults rose at a read of its share; where a plan is told, the plan lists one of these reads. It lists none
+/// of any die's after an `Ok`.
 pub fn gather_system<D: Die, J: CallJob>(
     alloc: Global,
     state: State<D, J>,
@@ -27,10 +27,8 @@ pub fn gather_system<D: Die, J: CallJob>(
     requires idle { (lane : ℕ) → (core_of D.seen state).calls lane ≡ None }
     requires home { (d : ℕ) → ((core_of D.seen state).dies d).out ≡ None }
     ensures bytes { IfOk result (λ bytes. bytes.items ≡ flash_bytes (core_of D.seen state)) }
-    ensures listed { (die : ℕ) → result ≡ Err (FailedDie die) →
-        IfSome (die_at D.seen state.rack.slots.items die).plan (FailsWithin (share_of state.meta.geometry die)) }
-    ensures unlisted { IfOk result (λ _. (die : ℕ) → die < state.meta.geometry.dies →
-        IfSome (die_at D.seen state.rack.slots.items die).plan (GivesAll (share_of state.meta.geometry die))) }
+    ensures stopped { (die : ℕ) → result ≡ Err (FailedDie die) → HasStopped D.seen state.meta.geometry state.rack.slots.items die }
+    ensures given { IfOk result (λ _. HasGiven D.seen state.meta.geometry state.rack.slots.items) }
     ensures mounts { IfOk result (λ bytes. Settled D.seen state → mounts_to bytes.items ≡ Ok (mounted_of (plain (core_of D.seen state)))) }
 {
     let (mut dies, geometry) = into_dies(state);

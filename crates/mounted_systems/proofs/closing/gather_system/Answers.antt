@@ -1,11 +1,11 @@
-use Rattle.std.proofs.Common.{◌<◌, map, IfSome, sym, ap, ◌∙◌, subst}
+use Rattle.std.proofs.Common.{ℕ, ◌<◌, map, IfSome, sym, ap, ◌∙◌, subst}
 use Rattle.image_format.specs.Image.{mounts_to}
-use Rattle.flash_die.specs.Dies.{DieView}
 use Rattle.page_base.specs.Drive.{Drive}
 use Rattle.drive_array.specs.Reads as read
-use Rattle.drive_array.specs.Reads.{AreDiesOf, TellsPages, image_bytes, share_of, FailsWithin, GivesAll}
+use Rattle.drive_array.specs.Reads.{AreDiesOf, TellsPages, image_bytes, share_of, GivesAll}
+use Rattle.mounted_systems.specs.Gathered.{HasStopped}
 use Rattle.mounted_systems.proofs.Dealt.{on_ok}
-use Rattle.mounted_systems.proofs.Gathered.{pages_by_die, die_is, tells, shares, bytes_are}
+use Rattle.mounted_systems.proofs.Gathered.{pages_by_die, tells, shares, bytes_are}
 use Rattle.mounted_systems.proofs.closing.gather_system.Goals as goal
 
 pub gather-requires : goal.gather-requires
@@ -28,23 +28,28 @@ returns-clause-bytes g c =
     ∙ (ap (λ (d : Drive). image_bytes d lists) e.geometry ∙ bytes_are g.D.Die.seen g.J.CallJob.suits c.args.state kept dies e.dies))
     c.gather.ensures.bytes
 
-pub returns-clause-listed : goal.returns-clause-listed
-returns-clause-listed g c = λ die is.
+pub returns-clause-stopped : goal.returns-clause-stopped
+returns-clause-stopped g c = λ die is.
     let e = c.into_dies-dies.ensures in
-    subst (λ (v : DieView). IfSome v.plan (FailsWithin (share_of c.args.state.meta.geometry die)))
-    (die_is g.D.Die.seen g.J.CallJob.suits c.args.state c.requires.standing.stands.kept c.into_dies-dies.result.0.items e.dies die)
-    (subst (λ (d : Drive). IfSome (read.die_at (map g.D.Die.seen c.into_dies-dies.result.0.items) die).plan (FailsWithin (share_of d die))) e.geometry
-    (c.gather.ensures.listed die is))
+    let dies = c.into_dies-dies.result.0.items in
+    subst (λ (d : Drive). HasStopped g.D.Die.seen d c.args.state.rack.slots.items die) e.geometry (record {
+      dies = dies;
+      left = c.gather.new.dies.items;
+      home = e.dies;
+      stops = c.gather.ensures.stopped die is;
+      rises = c.gather.ensures.fault die is;
+      listed = c.gather.ensures.listed die is;
+    })
 
-pub returns-clause-unlisted : goal.returns-clause-unlisted
-returns-clause-unlisted g c =
+pub returns-clause-given : goal.returns-clause-given
+returns-clause-given g c =
     let e = c.into_dies-dies.ensures in
     on_ok c.gather.result
-    (λ bytes is die l.
-    subst (λ (v : DieView). IfSome v.plan (GivesAll (share_of c.args.state.meta.geometry die)))
-    (die_is g.D.Die.seen g.J.CallJob.suits c.args.state c.requires.standing.stands.kept c.into_dies-dies.result.0.items e.dies die)
-    (subst (λ (d : Drive). die < d.dies → IfSome (read.die_at (map g.D.Die.seen c.into_dies-dies.result.0.items) die).plan (GivesAll (share_of d die))) e.geometry
-    (is die) l))
+    (λ bytes is. record {
+      dies = c.into_dies-dies.result.0.items;
+      home = e.dies;
+      unlisted = subst (λ (d : Drive). (die : ℕ) → die < d.dies → IfSome (read.die_at (map g.D.Die.seen c.into_dies-dies.result.0.items) die).plan (GivesAll (share_of d die))) e.geometry is;
+    })
     c.gather.ensures.unlisted
 
 pub returns-clause-mounts : goal.returns-clause-mounts

@@ -1,0 +1,5 @@
+pub mod Orders
+pub mod Stored
+pub mod Imaging
+pub mod Begun
+pub mod Made
