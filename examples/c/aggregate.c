@@ -1,11 +1,5 @@
 /* Over records of 16 bytes: the sum of their amounts, the least and the greatest one, and how many are negative. */
-#include "function.h"
-
-struct record {
-    u32 key;
-    s32 amount;
-    u64 time;
-};
+#include "record.h"
 
 u64 run(struct context *c)
 {

@@ -1,11 +1,5 @@
 /* The records of 16 bytes whose key is from the parameter's first number up to below its second one. */
-#include "function.h"
-
-struct record {
-    u32 key;
-    s32 amount;
-    u64 time;
-};
+#include "record.h"
 
 u64 run(struct context *c)
 {

@@ -14,21 +14,29 @@ use Rattle.sbpf_insn.specs.Accepted.{IsAccepted, jump_of, call_of, writes_r10, i
 use Rattle.predicates.specs.declared.pred.PredCond.{PredCond}
 use Rattle.predicates.specs.declared.pred.Pred.{Pred, Cmp, And', Or', Not', more_of-Pred, end_of-Pred}
 use Rattle.predicates.specs.Nodes.{preorder, nodes}
-use Rattle.pred_compile.specs.Generated.{code_slots, cmp_code, pred_code, opening, record_test, taking, going_on, ending, framed, pred_program}
+use Rattle.pred_compile.specs.Generated.{is_short, slots_where, code_slots, cmp_where, pred_code, opening, record_test, taking, going_on, ending, framed, pred_program}
 use Rattle.pred_compile.proofs.Places.{HasAt, has_front, has_back, has_all, has_moved, AllAt, all_join, all_here, all_moved, slots_both}
 
 -- ---- how long the code is
 
+slots-cmp_where : (short : Bool) (c : PredCond) (off size v t f : ℕ) → slots (cmp_where short c off size v t f) ≡ slots_where short
+slots-cmp_where true c off size v t f = refl
+slots-cmp_where false c off size v t f = refl
+
 pub slots-pred_code : (p : Pred) (t f : ℕ) → slots (pred_code p t f) ≡ code_slots p
-slots-pred_code (Cmp c off size v) t f = refl
+slots-pred_code (Cmp c off size v) t f = slots-cmp_where (is_short v) c off size v t f
 slots-pred_code (And' s (more_of-Pred a end_of-Pred) s' (more_of-Pred b end_of-Pred)) t f =
     slots_both (pred_code a 0 (code_slots b + f)) (pred_code b t f) ∙ omega (arith, slots-pred_code a 0 (code_slots b + f), slots-pred_code b t f)
 slots-pred_code (Or' s (more_of-Pred a end_of-Pred) s' (more_of-Pred b end_of-Pred)) t f =
     slots_both (pred_code a (code_slots b + t) 0) (pred_code b t f) ∙ omega (arith, slots-pred_code a (code_slots b + t) 0, slots-pred_code b t f)
 slots-pred_code (Not' s (more_of-Pred a end_of-Pred)) t f = slots-pred_code a f t
 
+five_at_most : (short : Bool) → slots_where short ≤ 5
+five_at_most true = omega arith
+five_at_most false = omega arith
+
 pub few_slots : (p : Pred) → code_slots p ≤ 5 * nodes p
-few_slots (Cmp c off size v) = omega arith
+few_slots (Cmp c off size v) = five_at_most (is_short v)
 few_slots (And' s (more_of-Pred a end_of-Pred) s' (more_of-Pred b end_of-Pred)) = omega (arith, few_slots a, few_slots b, length-append (preorder a) (preorder b))
 few_slots (Or' s (more_of-Pred a end_of-Pred) s' (more_of-Pred b end_of-Pred)) = omega (arith, few_slots a, few_slots b, length-append (preorder a) (preorder b))
 few_slots (Not' s (more_of-Pred a end_of-Pred)) = omega (arith, few_slots a)
@@ -38,8 +46,12 @@ few_slots (Not' s (more_of-Pred a end_of-Pred)) = omega (arith, few_slots a)
 join : (a b : List Insn) → list_all is_well_formed a ≡ true → list_all is_well_formed b ≡ true → list_all is_well_formed (a ++ b) ≡ true
 join a b x y = list_all-append is_well_formed a b ∙ rw (x, y) refl
 
+formed-cmp_where : (short : Bool) (c : PredCond) (off size v t f : ℕ) → list_all is_well_formed (cmp_where short c off size v t f) ≡ true
+formed-cmp_where true c off size v t f = refl
+formed-cmp_where false c off size v t f = refl
+
 pub formed-pred_code : (p : Pred) (t f : ℕ) → list_all is_well_formed (pred_code p t f) ≡ true
-formed-pred_code (Cmp c off size v) t f = refl
+formed-pred_code (Cmp c off size v) t f = formed-cmp_where (is_short v) c off size v t f
 formed-pred_code (And' s (more_of-Pred a end_of-Pred) s' (more_of-Pred b end_of-Pred)) t f =
     join (pred_code a 0 (code_slots b + f)) (pred_code b t f) (formed-pred_code a 0 (code_slots b + f)) (formed-pred_code b t f)
 formed-pred_code (Or' s (more_of-Pred a end_of-Pred) s' (more_of-Pred b end_of-Pred)) t f =
@@ -75,8 +87,28 @@ lands code s d to k is at first =
     let e : pos d ≡ k = cc in
     subst (λ (z : ℤ). is_first code (destination s z) ≡ true) e (ap (λ (n : ℕ). is_some (at_slot code n)) at ∙ first)
 
-good_cmp : (code : List Insn) (s t f : ℕ) (c : PredCond) (off size v : ℕ) → First code (s + 5 + t) → First code (s + 5 + f) → s + 5 < slots code → AllAt (Good code) s (cmp_code c off size v t f)
-good_cmp code s t f c off size v to_true to_false within = (
+good_cmp : (code : List Insn) (short : Bool) (s t f : ℕ) (c : PredCond) (off size v : ℕ) → First code (s + slots_where short + t) → First code (s + slots_where short + f) → s + slots_where short < slots code → AllAt (Good code) s (cmp_where short c off size v t f)
+good_cmp code true s t f c off size v to_true to_false within = (
+  plain code s _ refl refl refl (omega arith),
+  (
+    record {
+      jumps = λ k e. lands code (s + 1) (t + 1) (s + 3 + t) k e (omega arith) to_true;
+      calls = refl;
+      keeps = refl;
+      ends = inr (omega arith);
+    },
+    (
+      record {
+        jumps = λ k e. lands code (s + 1 + 1) f (s + 3 + f) k e (omega arith) to_false;
+        calls = refl;
+        keeps = refl;
+        ends = inl refl;
+      },
+      tt,
+    ),
+  ),
+)
+good_cmp code false s t f c off size v to_true to_false within = (
   plain code s _ refl refl refl (omega arith),
   (
     plain code (s + 1) _ refl refl refl (omega arith),
@@ -114,7 +146,7 @@ pub second_at : (code : List Insn) (s n : ℕ) (a b : List Insn) → slots a ≡
 second_at code s n a b e h = has_moved code (s + slots a) (s + n) b (ap (λ (k : ℕ). s + k) e) (has_back code s a b h)
 
 good_pred : (code : List Insn) (p : Pred) (s t f : ℕ) → HasAt code s (pred_code p t f) → First code (s + code_slots p + t) → First code (s + code_slots p + f) → s + code_slots p < slots code → AllAt (Good code) s (pred_code p t f)
-good_pred code (Cmp c off size v) s t f h to_true to_false within = good_cmp code s t f c off size v to_true to_false within
+good_pred code (Cmp c off size v) s t f h to_true to_false within = good_cmp code (is_short v) s t f c off size v to_true to_false within
 good_pred code (And' x (more_of-Pred a end_of-Pred) y (more_of-Pred b end_of-Pred)) s t f h to_true to_false within =
     let ca = pred_code a 0 (code_slots b + f) in
     let cb = pred_code b t f in

@@ -133,6 +133,11 @@ module _ (m : Regions) (s r0 r2 r3 r6 r7 r8 r9 : ℕ) where
       ap (λ (b : Bool). Goes (state m (if b then (s + 1 + n) % 2 ^ 32 else (s + 1) % 2 ^ 32) r0 r2 r3 r6 r7 r8 r9)) (same_test c r2 r3 ∙ e)
       ∙ ap (λ (k : ℕ). Goes (state m k r0 r2 r3 r6 r7 r8 r9)) (jumped_to taken n small short)
 
+  pub compare_number : (c : PredCond) (v n : ℕ) (taken : Bool) → s < 2 ^ 31 → n < 2 ^ 31 → select.holds c r2 v ≡ taken → act (insn.Jump true (cond_of c) field (src.Imm (pos v)) (pos n)) here ≡ Goes (state m (to_of taken n) r0 r2 r3 r6 r7 r8 r9)
+  compare_number c v n taken small short e =
+      ap (λ (b : Bool). Goes (state m (if b then (s + 1 + n) % 2 ^ 32 else (s + 1) % 2 ^ 32) r0 r2 r3 r6 r7 r8 r9)) (same_test c r2 v ∙ e)
+      ∙ ap (λ (k : ℕ). Goes (state m k r0 r2 r3 r6 r7 r8 r9)) (jumped_to taken n small short)
+
   pub compare_rest : (w n : ℕ) (taken : Bool) → s < 2 ^ 31 → n < 2 ^ 31 → select.holds is.Lt r7 w ≡ taken → act (insn.Jump true test.Jlt rest (src.Imm (pos w)) (pos n)) here ≡ Goes (state m (to_of taken n) r0 r2 r3 r6 r7 r8 r9)
   compare_rest w n taken small short e =
       ap (λ (b : Bool). Goes (state m (if b then (s + 1 + n) % 2 ^ 32 else (s + 1) % 2 ^ 32) r0 r2 r3 r6 r7 r8 r9)) e

@@ -21,7 +21,7 @@ use Rattle.predicates.specs.Fields.{is_sound, is_field, fields_fit}
 use Rattle.predicates.specs.Select as select
 use Rattle.predicates.specs.Select.{field, satisfies, records, record_at, is_selected}
 use Rattle.predicates.proofs.FieldLaws.{both_all}
-use Rattle.pred_compile.specs.Generated.{code_slots, cond_of, size_of, cmp_code, pred_code, opening, record_test, taking, going_on, ending}
+use Rattle.pred_compile.specs.Generated.{is_short, slots_where, code_slots, cond_of, size_of, cmp_where, pred_code, opening, record_test, taking, going_on, ending}
 use Rattle.pred_compile.specs.Promise.{EndsWith, listed, enough_fuel}
 use Rattle.pred_compile.proofs.Places.{HasAt, has_front, has_moved}
 use Rattle.pred_compile.proofs.Lands.{Parts, second_at, slots-pred_code}
@@ -108,15 +108,28 @@ module _ (code : List Insn) (m : Regions) (w : ℕ) (bytes : List ℕ) (r0 r6 r7
   abbrev Loads : Type 0
   Loads = (off n : ℕ) → is_field w off n ≡ true → load m 0x500000200 ((r6 + off) % 2 ^ 64) (size_of n) ≡ Some (field bytes off n)
 
-  cmp_leads : Loads → (c : PredCond) (off n v s t f : ℕ) (sat : Bool) → HasAt code s (cmp_code c off n v t f) → is_field w off n ≡ true → select.holds c (field bytes off n) v ≡ sat → s + 5 + t < 2 ^ 30 → s + 5 + f < 2 ^ 30 → Leads 4 s (to_of sat (s + 5) t f)
-  cmp_leads loads c off n v s t f true has is holds ht hf = λ r2 r3.
+  cmp_leads : Loads → (short : Bool) (c : PredCond) (off n v s t f : ℕ) (sat : Bool) → HasAt code s (cmp_where short c off n v t f) → is_field w off n ≡ true → select.holds c (field bytes off n) v ≡ sat → s + slots_where short + t < 2 ^ 30 → s + slots_where short + f < 2 ^ 30 → Leads 4 s (to_of sat (s + slots_where short) t f)
+  cmp_leads loads true c off n v s t f true has is holds ht hf = λ r2 r3.
+      let x = field bytes off n in
+      let one1 : Reaches 1 code (at s r2 r3) (at (s + 1) x r3) = one code _ _ _ has.0 (moves.load_field m s r0 r2 r3 r6 r7 r8 r9 (size_of n) off x (omega arith) (loads off n is)) in
+      let one2 : Reaches 1 code (at (s + 1) x r3) (at (s + 1 + 1 + (t + 1)) x r3) = one code _ _ _ has.1.0 (moves.compare_number m (s + 1) r0 x r3 r6 r7 r8 r9 c v (t + 1) true (omega arith) (omega arith) holds) in
+      let e : s + 1 + 1 + (t + 1) ≡ s + 3 + t = omega arith in
+      gets code 4 2 x r3 (at s r2 r3) (at (s + 3 + t)) (omega arith) (subst (λ (k : ℕ). Reaches 2 code (at s r2 r3) (at k x r3)) e (two_steps code _ _ _ one1 one2))
+  cmp_leads loads true c off n v s t f false has is holds ht hf = λ r2 r3.
+      let x = field bytes off n in
+      let one1 : Reaches 1 code (at s r2 r3) (at (s + 1) x r3) = one code _ _ _ has.0 (moves.load_field m s r0 r2 r3 r6 r7 r8 r9 (size_of n) off x (omega arith) (loads off n is)) in
+      let one2 : Reaches 1 code (at (s + 1) x r3) (at (s + 1 + 1) x r3) = one code _ _ _ has.1.0 (moves.compare_number m (s + 1) r0 x r3 r6 r7 r8 r9 c v (t + 1) false (omega arith) (omega arith) holds) in
+      let one3 : Reaches 1 code (at (s + 1 + 1) x r3) (at (s + 1 + 1 + 1 + f) x r3) = one code _ _ _ has.1.1.0 (moves.go_forward m (s + 1 + 1) r0 x r3 r6 r7 r8 r9 f (omega arith) (omega arith)) in
+      let e : s + 1 + 1 + 1 + f ≡ s + 3 + f = omega arith in
+      gets code 4 3 x r3 (at s r2 r3) (at (s + 3 + f)) (omega arith) (subst (λ (k : ℕ). Reaches 3 code (at s r2 r3) (at k x r3)) e (three_steps code _ _ _ _ one1 one2 one3))
+  cmp_leads loads false c off n v s t f true has is holds ht hf = λ r2 r3.
       let x = field bytes off n in
       let one1 : Reaches 1 code (at s r2 r3) (at (s + 1) x r3) = one code _ _ _ has.0 (moves.load_field m s r0 r2 r3 r6 r7 r8 r9 (size_of n) off x (omega arith) (loads off n is)) in
       let one2 : Reaches 1 code (at (s + 1) x r3) (at (s + 1 + 2) x v) = one code _ _ _ has.1.0 (moves.load_value m (s + 1) r0 x r3 r6 r7 r8 r9 v (omega arith)) in
       let one3 : Reaches 1 code (at (s + 1 + 2) x v) (at (s + 1 + 2 + 1 + (t + 1)) x v) = one code _ _ _ has.1.1.0 (moves.compare_field m (s + 1 + 2) r0 x v r6 r7 r8 r9 c (t + 1) true (omega arith) (omega arith) holds) in
       let e : s + 1 + 2 + 1 + (t + 1) ≡ s + 5 + t = omega arith in
       gets code 4 3 x v (at s r2 r3) (at (s + 5 + t)) (omega arith) (subst (λ (k : ℕ). Reaches 3 code (at s r2 r3) (at k x v)) e (three_steps code _ _ _ _ one1 one2 one3))
-  cmp_leads loads c off n v s t f false has is holds ht hf = λ r2 r3.
+  cmp_leads loads false c off n v s t f false has is holds ht hf = λ r2 r3.
       let x = field bytes off n in
       let one1 : Reaches 1 code (at s r2 r3) (at (s + 1) x r3) = one code _ _ _ has.0 (moves.load_field m s r0 r2 r3 r6 r7 r8 r9 (size_of n) off x (omega arith) (loads off n is)) in
       let one2 : Reaches 1 code (at (s + 1) x r3) (at (s + 1 + 2) x v) = one code _ _ _ has.1.0 (moves.load_value m (s + 1) r0 x r3 r6 r7 r8 r9 v (omega arith)) in
@@ -133,7 +146,7 @@ module _ (code : List Insn) (m : Regions) (w : ℕ) (bytes : List ℕ) (r0 r6 r7
   leads_from limit s n k sat t f e x = subst (λ (j : ℕ). Leads limit s (to_of sat j t f)) e x
 
   pred_leads : Loads → (p : Pred) (s t f : ℕ) → HasAt code s (pred_code p t f) → fields_fit p w ≡ true → s + code_slots p + t < 2 ^ 30 → s + code_slots p + f < 2 ^ 30 → Leads (4 * nodes p) s (to_of (satisfies p bytes) (s + code_slots p) t f)
-  pred_leads loads (Cmp c off n v) s t f has fit ht hf = cmp_leads loads c off n v s t f (select.holds c (field bytes off n) v) has (left_true (is_field w off n) true fit) refl ht hf
+  pred_leads loads (Cmp c off n v) s t f has fit ht hf = cmp_leads loads (is_short v) c off n v s t f (select.holds c (field bytes off n) v) has (left_true (is_field w off n) true fit) refl ht hf
   pred_leads loads (And' z (more_of-Pred a end_of-Pred) z' (more_of-Pred b end_of-Pred)) s t f has fit ht hf =
       let na = code_slots a in
       let nb = code_slots b in

@@ -1,6 +1,6 @@
 -- The code of a predicate. No reader need believe this: it is proved to keep the promise. This project's
 -- own.
-use Rattle.std.specs.Prelude.{ℕ, ◌+◌, ℤ, pos, negsuc, true, nat_eq, List, [], ◌∷◌, ◌++◌, if◌then◌else◌}
+use Rattle.std.specs.Prelude.{ℕ, ◌+◌, ◌^◌, ℤ, pos, negsuc, Bool, true, nat_eq, nat_lt, List, [], ◌∷◌, ◌++◌, if◌then◌else◌}
 use Rattle.sbpf_insn.specs.declared.insn.Reg.{Reg}
 use Rattle.sbpf_insn.specs.declared.insn.Src.TheVariants as src
 use Rattle.sbpf_insn.specs.declared.insn.Size.{Size}
@@ -55,23 +55,46 @@ cond_of is.Ge = test.Jge
 cond_of is.Lt = test.Jlt
 cond_of is.Le = test.Jle
 
+-- a number that a comparison holds in itself, without a wide load
+abbrev pub is_short : ℕ → Bool
+is_short v = nat_lt v (2 ^ 31)
+
+-- how many slots a comparison has, where its number is short and where it is not
+abbrev pub slots_where : Bool → ℕ
+slots_where short = if short then 3 else 5
+
 -- how many slots the code of a predicate has
 abbrev pub code_slots : Pred → ℕ
-code_slots (Cmp c off size v) = 5
+code_slots (Cmp c off size v) = slots_where (is_short v)
 code_slots (And' s (more_of-Pred a end_of-Pred) t (more_of-Pred b end_of-Pred)) = code_slots a + code_slots b
 code_slots (Or' s (more_of-Pred a end_of-Pred) t (more_of-Pred b end_of-Pred)) = code_slots a + code_slots b
 code_slots (Not' s (more_of-Pred a end_of-Pred)) = code_slots a
 
 -- control goes on at so many slots behind the code: on_true where the comparison holds, else on_false
-abbrev pub compare_code : PredCond → ℕ → ℕ → ℕ → List Insn
-compare_code c v on_true on_false =
+abbrev pub short_code : PredCond → ℕ → ℕ → ℕ → List Insn
+short_code c v on_true on_false =
+    insn.Jump true (cond_of c) field (src.Imm (pos v)) (pos (on_true + 1))
+    ∷ insn.Ja (pos on_false)
+    ∷ []
+
+abbrev pub wide_code : PredCond → ℕ → ℕ → ℕ → List Insn
+wide_code c v on_true on_false =
     insn.LoadWide value v
     ∷ insn.Jump true (cond_of c) field (src.Reg value) (pos (on_true + 1))
     ∷ insn.Ja (pos on_false)
     ∷ []
 
+abbrev pub compare_where : Bool → PredCond → ℕ → ℕ → ℕ → List Insn
+compare_where short c v on_true on_false = if short then short_code c v on_true on_false else wide_code c v on_true on_false
+
+abbrev pub compare_code : PredCond → ℕ → ℕ → ℕ → List Insn
+compare_code c v on_true on_false = compare_where (is_short v) c v on_true on_false
+
+abbrev pub cmp_where : Bool → PredCond → ℕ → ℕ → ℕ → ℕ → ℕ → List Insn
+cmp_where short c off size v on_true on_false = insn.Load (size_of size) field place (pos off) ∷ compare_where short c v on_true on_false
+
 abbrev pub cmp_code : PredCond → ℕ → ℕ → ℕ → ℕ → ℕ → List Insn
-cmp_code c off size v on_true on_false = insn.Load (size_of size) field place (pos off) ∷ compare_code c v on_true on_false
+cmp_code c off size v on_true on_false = cmp_where (is_short v) c off size v on_true on_false
 
 -- the same of a predicate
 abbrev pub pred_code : Pred → ℕ → ℕ → List Insn

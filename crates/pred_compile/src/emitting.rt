@@ -7,7 +7,7 @@ ghost use Rattle.sbpf_insn.specs.declared.insn.Size.TheVariants as size;
 ghost use Rattle.sbpf_insn.specs.declared.insn.Insn.TheVariants as insn;
 ghost use Rattle.predicates.specs.Nodes.{nodes};
 ghost use Rattle.predicates.specs.Fields.{fields_fit};
-ghost use Rattle.pred_compile.specs.Generated.{field, place, context, size_of, cond_of, code_slots, compare_code, pred_code, opening, record_test, taking, going_on, ending, pred_program};
+ghost use Rattle.pred_compile.specs.Generated.{field, place, context, size_of, cond_of, is_short, slots_where, code_slots, short_code, wide_code, compare_code, pred_code, opening, record_test, taking, going_on, ending, pred_program};
 
 use predicates::{Pred, PredCond};
 use sbpf_insn::{AluOp, Cond, Insn, Reg, Size, Src};
@@ -69,6 +69,17 @@ pub(crate) fn emit_program(alloc: Global, pred: &Pred, width: u32) -> Result<Vec
     Ok(out)
 }
 
+/// The numbers that a comparison holds in itself lie below: its field of 32 bits is taken with a sign.
+const SHORT: u64 = 1 << 31;
+
+// How many slots a comparison with a number has.
+fn compare_slots(value: u64) -> u16
+    ensures is { result ≡ slots_where (is_short value) }
+    ensures few { result ≤ 5 }
+{
+    if value < SHORT { 3 } else { 5 }
+}
+
 // How many slots the code of a predicate has.
 fn code_slots(pred: &Pred) -> u16
     requires { nodes pred.now ≤ 200 }
@@ -76,7 +87,7 @@ fn code_slots(pred: &Pred) -> u16
     ensures few { result ≤ 5 * nodes pred.now }
 {
     match pred {
-        Pred::Cmp { .. } => 5,
+        Pred::Cmp { value, .. } => compare_slots(*value),
         Pred::And(a, b) => code_slots(a.get()) + code_slots(b.get()),
         Pred::Or(a, b) => code_slots(a.get()) + code_slots(b.get()),
         Pred::Not(a) => code_slots(a.get()),
@@ -203,7 +214,7 @@ fn load_field(out: &mut Vec<Insn>, off: u32, size: u32) -> Result<(), AllocError
     Ok(())
 }
 
-// The comparison of the field that was loaded.
+// The comparison of the field that was loaded. A number below 2^31 stands in it; another is loaded first.
 fn compare(
     out: &mut Vec<Insn>,
     cond: PredCond,
@@ -214,6 +225,48 @@ fn compare(
     requires on_true { on_true + 1 < 2 ^ 15 }
     requires on_false { on_false < 2 ^ 15 }
     ensures { OnOk result (out.new.items ≡ out.old.items ++ compare_code cond value on_true on_false) }
+{
+    if value < SHORT {
+        return compare_short(out, cond, value, on_true, on_false);
+    }
+    compare_wide(out, cond, value, on_true, on_false)
+}
+
+fn compare_short(
+    out: &mut Vec<Insn>,
+    cond: PredCond,
+    value: u64,
+    on_true: u16,
+    on_false: u16,
+) -> Result<(), AllocError>
+    requires short { value < 2 ^ 31 }
+    requires on_true { on_true + 1 < 2 ^ 15 }
+    requires on_false { on_false < 2 ^ 15 }
+    ensures { OnOk result (out.new.items ≡ out.old.items ++ short_code cond value on_true on_false) }
+{
+    out.push(Insn::Jump {
+        wide: true,
+        cond: cond_of(cond),
+        dst: FIELD,
+        src: Src::Imm(value as i32),
+        offset: (on_true + 1) as i16,
+    })?;
+    out.push(Insn::Ja {
+        offset: on_false as i16,
+    })?;
+    Ok(())
+}
+
+fn compare_wide(
+    out: &mut Vec<Insn>,
+    cond: PredCond,
+    value: u64,
+    on_true: u16,
+    on_false: u16,
+) -> Result<(), AllocError>
+    requires on_true { on_true + 1 < 2 ^ 15 }
+    requires on_false { on_false < 2 ^ 15 }
+    ensures { OnOk result (out.new.items ≡ out.old.items ++ wide_code cond value on_true on_false) }
 {
     out.push(Insn::LoadWide { dst: VALUE, value })?;
     out.push(Insn::Jump {

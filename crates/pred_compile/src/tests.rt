@@ -44,10 +44,9 @@ fn regions(alloc: Global) -> Result<Regions, Fail>
     }
 }
 
-// How the run of the sample's code ended, and the output's first bytes.
-fn outcome(alloc: Global) -> Result<(Outcome, u64), Fail> {
-    let pred = sample(alloc)?;
-    let Ok(verified) = compile_pred(alloc, &pred, 8) else {
+// How the run of a predicate's code ended, and the output's first bytes.
+fn outcome(alloc: Global, pred: &Pred) -> Result<(Outcome, u64), Fail> {
+    let Ok(verified) = compile_pred(alloc, pred, 8) else {
         return Err("refused")?;
     };
     let mut regions = regions(alloc)?;
@@ -68,9 +67,19 @@ fn first_bytes(output: &Region) -> u64 {
 
 #[test]
 fn three_records_are_judged_with_320_units_of_fuel(rt: HostRuntime) -> Result<(), Fail> {
-    let (outcome, bytes) = outcome(rt.alloc())?;
-    assert_eq!(rt; outcome, Outcome::Done { r0: 4, used: 40 });
+    let pred = sample(rt.alloc())?;
+    let (outcome, bytes) = outcome(rt.alloc(), &pred)?;
+    assert_eq!(rt; outcome, Outcome::Done { r0: 4, used: 35 });
     assert_eq!(rt; bytes, 0x0707_0707_0000_0002);
+    Ok(())
+}
+
+#[test]
+fn a_number_of_32_bits_is_loaded_first(rt: HostRuntime) -> Result<(), Fail> {
+    let pred = comparison(PredCond::Le, 0, 4, 0x8000_0000);
+    let (outcome, bytes) = outcome(rt.alloc(), &pred)?;
+    assert_eq!(rt; outcome, Outcome::Done { r0: 12, used: 38 });
+    assert_eq!(rt; bytes, 0x0000_0001_0000_0000);
     Ok(())
 }
 
