@@ -1,0 +1,10 @@
+use Rattle.std.proofs.Common.{arith}
+use Rattle.lane_runs.proofs.seating.seat_flushers.Goals as goal
+
+pub loop-number-preserved : goal.loop-number-preserved
+loop-number-preserved g c =
+    let i = c.loop-number.invariant in
+    let s = c.in_ok-seat.ensures in
+    let more = s.more in
+    let long = i.1 in
+    (s.root, omega arith, λ lanes few all. s.new lanes (omega arith) (i.2 lanes few all))
