@@ -15,7 +15,7 @@ fn records_of_a_file_are_selected(rt: HostRuntime) -> Result<(), Fail> {
             "solo - S img",
             RECORDS,
             Status::Ok,
-            "#1 a.1 id 1\n#2 a.2 ok\nplaces host=0 drive=0 reads=0 writes=0\n",
+            "#1 a.1 id 1\n#2 a.2 ok\nplaces host=0 drive=0 reads=0 writes=135\n",
         ),
         (
             "select img f S 8",

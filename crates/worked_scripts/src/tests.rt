@@ -47,33 +47,57 @@ fn transcript_of(alloc: Global, script: &str) -> Result<(Status, MemSink), Alloc
 #[test]
 fn functions_read_and_write_files(rt: HostRuntime) -> Result<(), Fail> {
     let alloc = rt.alloc();
-    for (block, calls, replies) in [
+    for (block, calls, replies, host) in [
         (
             SUM,
             "a: create f\na: write f 0 fill:01*5000\na: load sum func sum\na: readl f 4000 500 sum 10000 8 hex:\n",
             "#1 a.1 id 1\n#2 a.2 ok\n#3 a.3 ok\n#4 a.4 res f401000000000000\n",
+            1u32,
         ),
         (
             PEEK,
             "a: create f\na: write f 0 fill:01*5000\na: write f 4096 hex:02030405\na: load peek func peek\na: readl f 0 5000 peek 100 8 hex:8113000000000000\na: readl f 0 5000 peek 100 8 hex:fc0f000000000000\n",
             "#1 a.1 id 1\n#2 a.2 ok\n#3 a.3 ok\n#4 a.4 ok\n#5 a.5 trap access 0x200001381 8 4\n#6 a.6 res 0101010102030405\n",
+            2,
         ),
         (
             "func spin\n  ja -1\nend\n",
             "a: create f\na: write f 0 text:abc\na: load spin func spin\na: writel f 0 3 spin 0 hex: hex:\na: writel f 0 3 spin 1 hex: hex:\na: writel f 0 3 spin 1000 hex: hex:\na: read f 0 3\n",
             "#1 a.1 id 1\n#2 a.2 ok\n#3 a.3 ok\n#4 a.4 spent\n#5 a.5 spent\n#6 a.6 spent\n#7 a.7 data 616263\n",
+            3,
         ),
         (
             PUT,
             "a: create f\na: write f 0 text:abc\na: load put func put\na: writel f 0 3 put 100 hex: text:Z\na: writel f 3 2 put 100 hex: text:Z\na: read f 0 9\n",
             "#1 a.1 id 1\n#2 a.2 ok\n#3 a.3 ok\n#4 a.4 val 7\n#5 a.5 val 7\n#6 a.6 data 615a63005a\n",
+            2,
         ),
     ] {
         let script = format!(in alloc; "{block}{calls}")?;
-        let expected = format!(in alloc; "{replies}{PLACES}")?;
+        let expected = format!(in alloc; "{replies}places host={host} drive=0 reads=0 writes=0\n")?;
         let (status, out) = transcript_of(alloc, script.as_str())?;
         assert_eq!(rt; status, Status::Ok, "at {calls}");
         assert!(rt; out.bytes() == expected.as_bytes(), "at {calls}");
+    }
+    Ok(())
+}
+
+#[test]
+fn functions_run_where_they_are_told_to(rt: HostRuntime) -> Result<(), Fail> {
+    let alloc = rt.alloc();
+    let calls =
+        "a: create f\na: write f 0 fill:01*5000\na: load sum func sum\na: readl f 4000 500 sum 10000 8 hex:\n";
+    let script = format!(in alloc; "{SUM}{calls}")?;
+    let replies = "#1 a.1 id 1\n#2 a.2 ok\n#3 a.3 ok\n#4 a.4 res f401000000000000\n";
+    for (line, places) in [
+        ("solo - S - --place host", "host=1 drive=0"),
+        ("solo - S - --die ftl --place drive", "host=0 drive=1"),
+    ] {
+        let mut room = room_of(alloc, script.as_str())?;
+        let (status, out) = asked(alloc, line, &mut room)?;
+        let expected = format!(in alloc; "{replies}places {places} reads=0 writes=0\n")?;
+        assert_eq!(rt; status, Status::Ok, "at {line}");
+        assert!(rt; out.bytes() == expected.as_bytes(), "at {line}");
     }
     Ok(())
 }
