@@ -8,8 +8,9 @@ ghost use Rattle.sbpf_exec.specs.Inside.{StaysInside};
 ghost use Rattle.sbpf_exec.specs.FlatCells.{Mirrors};
 ghost use Rattle.sbpf_exec.specs.Outcomes.{outcome_of, UsesAtMost};
 
-use crate::cells::{CELLS, Cell, flatten};
+use crate::cells::{CELLS, Cell};
 use crate::cpu::Cpu;
+use crate::flatten::flatten;
 use crate::quick::quick_run;
 use crate::regions::Regions;
 use crate::step::{Ending, step_once};

@@ -3,6 +3,7 @@
 
 mod cells;
 mod cpu;
+mod flatten;
 mod interpreter;
 mod number;
 mod pages;

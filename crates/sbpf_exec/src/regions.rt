@@ -132,8 +132,8 @@ impl Regions {
         }
     }
 
-    // The number at an address of the input or of the stack; None where it isn't wholly there, or lies in
-    // another region.
+    // The number at an address, found soonest in the input, the stack and the output; None where it isn't
+    // wholly in one region.
     #[inline]
     pub(crate) fn load_near(&self, top: u64, address: u64, size: Size) -> Option<u64>
         requires { IsShaped self.now }
@@ -146,9 +146,21 @@ impl Regions {
             region_number(&self.input, len, at, size)
         } else if area == 5 {
             stack_number(&self.stack, top, at, size)
+        } else if area == 3 {
+            let len = self.output_len;
+            region_number(&self.output, len, at, size)
         } else {
-            None
+            self.load_far(top, address, size)
         }
+    }
+
+    // The same number, by a call.
+    #[inline(never)]
+    fn load_far(&self, top: u64, address: u64, size: Size) -> Option<u64>
+        requires { IsShaped self.now }
+        ensures { result ≡ load (machine_regions self.now) top address size }
+    {
+        self.load(top, address, size)
     }
 
     // Writes a number at an address; false, and nothing changes, where it isn't wholly in one region that
@@ -171,6 +183,38 @@ impl Regions {
         } else {
             false
         }
+    }
+
+    // The same write, soonest to the stack.
+    #[inline]
+    pub(crate) fn store_near(&mut self, top: u64, address: u64, size: Size, value: u64) -> bool
+        requires { IsShaped self.old }
+        ensures done { IsTrue result → store (machine_regions self.old) top address size value ≡ Some (machine_regions self.new) }
+        ensures refused { IsFalse result → store (machine_regions self.old) top address size value ≡ None }
+        ensures kept { IsFalse result → machine_regions self.new ≡ machine_regions self.old }
+        ensures within { WritesWithin self.old self.new }
+        ensures shaped { IsShaped self.new }
+    {
+        let at = (address % 0x1_0000_0000) as usize;
+        let area = address / 0x1_0000_0000;
+        if area == 5 {
+            put_in_stack(&mut self.stack, top, at, size, value)
+        } else {
+            self.store_far(top, address, size, value)
+        }
+    }
+
+    // The same write, by a call.
+    #[inline(never)]
+    fn store_far(&mut self, top: u64, address: u64, size: Size, value: u64) -> bool
+        requires { IsShaped self.old }
+        ensures done { IsTrue result → store (machine_regions self.old) top address size value ≡ Some (machine_regions self.new) }
+        ensures refused { IsFalse result → store (machine_regions self.old) top address size value ≡ None }
+        ensures kept { IsFalse result → machine_regions self.new ≡ machine_regions self.old }
+        ensures within { WritesWithin self.old self.new }
+        ensures shaped { IsShaped self.new }
+    {
+        self.store(top, address, size, value)
     }
 
     // The number at an address, where it is wholly in one region that may be written.

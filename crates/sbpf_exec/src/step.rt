@@ -3,7 +3,7 @@ ghost use Rattle.std.specs.Prelude.{◌≡◌, ◌+◌, ◌%◌, ◌^◌, ◌≤
 ghost use Rattle.sbpf_insn.specs.Table.{is_well_formed, is_src};
 ghost use Rattle.sbpf_insn.specs.Arithmetic.{extended, atomic_of};
 ghost use Rattle.sbpf_insn.specs.Machine as machine;
-ghost use Rattle.sbpf_insn.specs.Machine.{step, act, operand, address, target, after_slot, jumped, alu_of, holds, load_step, store_step, atomic_step, atomic_size, fetched_into, with_fetched, call, leave, size_width};
+ghost use Rattle.sbpf_insn.specs.Machine.{step, act, operand, address, target, after_slot, jumped, alu_of, neg_of, holds, load_step, store_step, atomic_step, atomic_size, fetched_into, with_fetched, call, leave, size_width};
 ghost use Rattle.sbpf_exec.specs.Steps.{state, next_of, OnEnd};
 ghost use Rattle.sbpf_exec.specs.Parts.{machine_regions, IsShaped, WritesWithin};
 ghost use Rattle.sbpf_insn.specs.declared.insn.Insn.TheVariants as insn;
@@ -95,7 +95,7 @@ pub(crate) fn computes(wide: bool, op: AluOp, a: u64, b: u64) -> u64
 }
 
 #[inline]
-fn is_met(wide: bool, cond: Cond, a: u64, b: u64) -> bool
+pub(crate) fn is_met(wide: bool, cond: Cond, a: u64, b: u64) -> bool
     ensures { result ≡ holds wide cond a b }
 {
     if wide {
@@ -137,16 +137,22 @@ fn jump_step(
 }
 
 #[inline]
+pub(crate) fn negated(wide: bool, value: u64) -> u64
+    ensures { result ≡ neg_of wide value }
+{
+    if wide {
+        alu64(AluOp::Sub, 0, value)
+    } else {
+        alu32(AluOp::Sub, 0, value)
+    }
+}
+
+#[inline]
 fn neg_step(cpu: &mut Cpu, slot: u32, wide: bool, dst: Reg) -> Ending
     requires { dst.n ≤ 10 }
     ensures { (m : machine.Regions) → act (insn.Neg wide dst) (state cpu.old slot m) ≡ next_of result cpu.new m }
 {
-    let d = get(cpu, dst);
-    let value = if wide {
-        alu64(AluOp::Sub, 0, d)
-    } else {
-        alu32(AluOp::Sub, 0, d)
-    };
+    let value = negated(wide, get(cpu, dst));
     set(cpu, dst, value);
     Ending::Goes(next(slot, 1))
 }
@@ -207,7 +213,7 @@ fn load_signed(
 }
 
 #[inline]
-fn extend(size: Size, value: u64) -> u64
+pub(crate) fn extend(size: Size, value: u64) -> u64
     ensures { result ≡ extended (size_width size) 64 value }
 {
     match size {
@@ -306,8 +312,9 @@ fn atomic(
 }
 
 #[inline]
-fn call_to(cpu: &mut Cpu, slot: u32, to: u32) -> Ending
-    ensures { (m : machine.Regions) → call (state cpu.old slot m) to ≡ next_of result cpu.new m }
+pub(crate) fn call_to(cpu: &mut Cpu, slot: u32, to: u32) -> Ending
+    ensures kept { OnEnd result (cpu.new ≡ cpu.old) }
+    ensures next { (m : machine.Regions) → call (state cpu.old slot m) to ≡ next_of result cpu.new m }
 {
     if cpu.frames.is_full() {
         return Ending::Depth;
@@ -325,8 +332,9 @@ fn call_to(cpu: &mut Cpu, slot: u32, to: u32) -> Ending
 }
 
 #[inline]
-fn leave_frame(cpu: &mut Cpu, slot: u32) -> Ending
-    ensures { (m : machine.Regions) → leave (state cpu.old slot m) cpu.old.frames ≡ next_of result cpu.new m }
+pub(crate) fn leave_frame(cpu: &mut Cpu, slot: u32) -> Ending
+    ensures kept { OnEnd result (cpu.new ≡ cpu.old) }
+    ensures next { (m : machine.Regions) → leave (state cpu.old slot m) cpu.old.frames ≡ next_of result cpu.new m }
 {
     let Some(saved) = cpu.frames.pop() else {
         return Ending::Done(cpu.registers[0]);

@@ -1,7 +1,7 @@
 use Rattle.std.proofs.Common.{sym, arith}
 use Rattle.sbpf_exec.proofs.CellTable.{stands_as, mirrors_more}
-use Rattle.sbpf_exec.proofs.cells.flatten.Goals as goal
-use Rattle.sbpf_exec.proofs.cells.flatten.Goals.{in-Some, in_default}
+use Rattle.sbpf_exec.proofs.flatten.flatten.Goals as goal
+use Rattle.sbpf_exec.proofs.flatten.flatten.Goals.{in-Some, in_default}
 
 pub loop-slot-preserved : goal.loop-slot-preserved
 loop-slot-preserved c = elim c.match-at_slot.branch [
