@@ -39,15 +39,15 @@ use Rattle.desk_turns.specs.Passing.{ActsFor, core_after, core_seen, Turn, Went,
 use Rattle.desk_turns.proofs.Holding.{coherent_all}
 use Rattle.desk_turns.proofs.Later.{keeps_on}
 use Rattle.desk_turns.proofs.Went.{went_on, went_turn, found_turn}
-use Rattle.page_steps.specs.declared.making.Made.{Made}
-use Rattle.page_steps.specs.declared.making.Made.TheVariants.{Room, Failed, Wait}
-use Rattle.page_steps.proofs.Steps.{free_may}
+use Rattle.quick_calls.specs.MadeAnswer.{Made}
+use Rattle.quick_calls.specs.MadeAnswer.TheVariants.{Room, Failed, Wait}
+use Rattle.quick_calls.proofs.Steps.{free_may}
 use Rattle.quick_calls.specs.Beginning.{BeginSays}
 use Rattle.quick_calls.specs.BegunAnswer.{Begun}
 use Rattle.quick_calls.specs.BegunAnswer.TheVariants.{Ended as Refused, Started as Begins}
 use Rattle.quick_calls.specs.Ways.{Waits as WayWaits, begin_way}
 use Rattle.quick_calls.specs.Flushing.{IsCutShort}
-use Rattle.page_steps.specs.LaneTurns.{SkipSays}
+use Rattle.quick_calls.specs.LaneTurns.{SkipSays}
 use Rattle.quick_calls.specs.Making.{IsIdleWith, IsFree, IsMarked, IsForRoom, MadeRoom, FailedRoom, NoRoomYet, RoomSays}
 use Rattle.quick_calls.proofs.FlushSteps.{quiet_step, failed_on}
 use Rattle.quick_calls.proofs.Ending.{starts_on, idle_at, found_alone, acts_after, alone_after, Waited, waited_none, waited_on, ended_on}

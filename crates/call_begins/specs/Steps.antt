@@ -25,8 +25,8 @@ use Rattle.system_lanes.specs.Waiting.{awaited_still}
 use Rattle.call_job.specs.declared.job.Job.{Job}
 use Rattle.job_turns.specs.Armed.{HasJob}
 use Rattle.desk_turns.specs.Passing.{core_after, core_seen, FoundAt}
-use Rattle.page_steps.specs.declared.making.Made.{Made}
-use Rattle.page_steps.specs.declared.making.Made.TheVariants.{Room, Failed, Wait}
+use Rattle.quick_calls.specs.MadeAnswer.{Made}
+use Rattle.quick_calls.specs.MadeAnswer.TheVariants.{Room, Failed, Wait}
 use Rattle.quick_calls.specs.Begun.{side_of}
 use Rattle.quick_calls.specs.BegunAnswer.{Begun}
 use Rattle.quick_calls.specs.BegunAnswer.TheVariants.{Ended as Refused, Started as Begins}

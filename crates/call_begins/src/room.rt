@@ -12,8 +12,7 @@ use call_job::Job;
 use dispatcher::Side;
 use flash_die::Die;
 use page_base::Page;
-use page_steps::{Made, make_room};
-use quick_calls::System;
+use quick_calls::{Made, System, make_room};
 use turn_cell::{Desk, Worn};
 
 fn after_room(made: Made) -> BeginStep

@@ -14,3 +14,4 @@ pub use Rattle.page_steps.proofs.FlushTurning
 pub use Rattle.page_steps.proofs.FlushSteps
 pub use Rattle.page_steps.proofs.FlushHands
 pub use Rattle.page_steps.proofs.FlushKnown
+pub use Rattle.page_steps.proofs.Steps

@@ -19,3 +19,4 @@ pub use Rattle.page_steps.specs.SystemOf
 pub use Rattle.page_steps.specs.Books
 pub use Rattle.page_steps.specs.Flushing
 pub use Rattle.page_steps.specs.FlushedAnswer
+pub use Rattle.page_steps.specs.declared.making.Made as MadeAnswer

@@ -38,8 +38,8 @@ use Rattle.call_job.specs.Prepares.{IsPrepared}
 use Rattle.desk_turns.specs.Making.{AreOf}
 use Rattle.desk_turns.specs.Passing.{core_seen, Went, Does}
 use Rattle.desk_turns.proofs.Went.{of_on, went_on}
-use Rattle.call_finishes.specs.Gathering.{call_at}
-use Rattle.call_finishes.specs.Finishing.{IsBegun, IsFinished, FinishSays}
+use Rattle.lambda_finishes.specs.Gathering.{call_at}
+use Rattle.lambda_finishes.specs.Ends.{IsBegun, IsFinished, FinishSays}
 use Rattle.call_starts.specs.Armed.{HasJob}
 use Rattle.call_starts.specs.Calls.{SkipCallSays}
 use Rattle.call_starts.specs.Cut.{IsCutOff}

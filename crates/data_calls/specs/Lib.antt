@@ -11,3 +11,6 @@ pub use Rattle.call_starts.specs.Starting
 pub use Rattle.call_starts.specs.Steps
 pub use Rattle.call_starts.specs.Words
 pub use Rattle.call_starts.specs.declared.start.Beginning as BeginAnswer
+pub use Rattle.lambda_finishes.specs.Ends
+pub use Rattle.lambda_finishes.specs.Finishing
+pub use Rattle.lambda_finishes.specs.Gathering

@@ -16,10 +16,10 @@ ghost use Rattle.call_starts.specs.Words.{IsNumbered, IsSmall};
 ghost use Rattle.call_starts.specs.Making.{IsFree};
 ghost use Rattle.data_calls.specs.Answers.{PreparedSays, DataSays};
 
-use call_finishes::{finish_call, finish_call_alone};
 use call_job::{Job, Prepared};
 use call_starts::{Beginning, System, begin_call, begin_call_alone, skip_call, skip_call_alone};
 use flash_die::Die;
+use lambda_finishes::{finish_call, finish_call_alone};
 use page_base::Page;
 use plain_files::{Numbered, Request};
 use std::alloc::Global;

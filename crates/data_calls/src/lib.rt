@@ -14,3 +14,6 @@ pub use kinds::{
     append_call, append_call_alone, read_call, read_call_alone, trunc_call, trunc_call_alone,
     write_call, write_call_alone,
 };
+pub use lambda_finishes::{
+    finish_at_drive, finish_at_drive_alone, finish_at_host, finish_at_host_alone,
+};

@@ -29,7 +29,7 @@ use Rattle.call_job.specs.declared.job.Job.{Job}
 use Rattle.desk_turns.specs.Making.{AreOf}
 use Rattle.desk_turns.specs.Passing.{core_seen, Went, Does}
 use Rattle.desk_turns.proofs.Went.{of_on, went_on}
-use Rattle.lambda_finishes.specs.Gathering.{call_at}
+use Rattle.data_calls.specs.Gathering.{call_at}
 use Rattle.data_calls.specs.Armed.{HasJob}
 use Rattle.data_calls.specs.Calls.{SkipCallSays}
 use Rattle.data_calls.specs.Cut.{IsCutOff}
@@ -41,9 +41,9 @@ use Rattle.data_calls.proofs.Ending.{starts_on, alone_after}
 use Rattle.data_calls.proofs.FlushSteps.{run_on}
 use Rattle.data_calls.proofs.Rooming.{room_of, room_silent}
 use Rattle.data_calls.proofs.Whole.{end_replies, end_of, marked_of, at_call, calls_on, asked_here}
-use Rattle.lambda_finishes.specs.Finishing.{IsBegunAt, AreOfCall, HasEnded as HasFinished, LambdaSays}
-use Rattle.lambda_finishes.proofs.Serving.{of_lane, of_both, cut_on}
-use Rattle.lambda_finishes.proofs.Marks.{saw_since}
+use Rattle.data_calls.specs.Finishing.{IsBegunAt, AreOfCall, HasEnded as HasFinished, LambdaSays}
+use Rattle.data_calls.proofs.Serving.{of_lane, of_both, cut_on}
+use Rattle.data_calls.proofs.Marks.{saw_since}
 use Rattle.lambda_calls.specs.Kinds.{is_readl_call, is_writel_call}
 use Rattle.lambda_calls.specs.Answers.{HasReplied, HasNotReplied, PreparedSays, CallSays}
 

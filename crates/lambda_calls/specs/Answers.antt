@@ -22,7 +22,7 @@ use Rattle.data_calls.specs.Cut.{IsCutOff}
 use Rattle.data_calls.specs.Flushing.{HasFailed}
 use Rattle.data_calls.specs.Making.{IsFree}
 use Rattle.data_calls.specs.Answers.{Replies}
-use Rattle.lambda_finishes.specs.Ends.{SawFailure}
+use Rattle.data_calls.specs.Ends.{SawFailure}
 
 module _ {D J : Type 0} (seen : D → DieView) where
   -- from one view to a later one a die has failed: its count of faults has risen, or the history has the failure

@@ -7,4 +7,4 @@ pub use Rattle.data_calls.specs.Cut
 pub use Rattle.data_calls.specs.Kinds as DataKinds
 pub use Rattle.data_calls.specs.Making
 pub use Rattle.data_calls.specs.Words
-pub use Rattle.lambda_finishes.specs.Finishing
+pub use Rattle.data_calls.specs.Finishing

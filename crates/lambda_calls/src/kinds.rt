@@ -13,7 +13,7 @@ ghost use Rattle.desk_turns.specs.Passing.{ActsFor, core_seen, Does};
 ghost use Rattle.data_calls.specs.Books.{opening_in};
 ghost use Rattle.data_calls.specs.Words.{IsNumbered, IsSmall};
 ghost use Rattle.data_calls.specs.Making.{IsFree};
-ghost use Rattle.lambda_finishes.specs.Finishing.{AreOfCall};
+ghost use Rattle.data_calls.specs.Finishing.{AreOfCall};
 ghost use Rattle.lambda_calls.specs.Kinds.{is_readl_call, is_writel_call};
 ghost use Rattle.lambda_calls.specs.Answers.{CallSays};
 

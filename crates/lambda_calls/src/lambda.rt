@@ -15,17 +15,17 @@ ghost use Rattle.desk_turns.specs.Passing.{ActsFor, core_seen, Does};
 ghost use Rattle.data_calls.specs.Books.{opening_in};
 ghost use Rattle.data_calls.specs.Words.{IsNumbered, IsSmall};
 ghost use Rattle.data_calls.specs.Making.{IsFree};
-ghost use Rattle.lambda_finishes.specs.Finishing.{IsBegunAt, AreOfCall, LambdaSays};
+ghost use Rattle.data_calls.specs.Finishing.{IsBegunAt, AreOfCall, LambdaSays};
 ghost use Rattle.lambda_calls.specs.Answers.{PreparedSays, CallSays};
 
 use call_job::{Job, Prepared};
-use data_calls::{Beginning, System, begin_call, begin_call_alone, skip_call, skip_call_alone};
+use data_calls::{
+    Beginning, System, begin_call, begin_call_alone, finish_at_drive, finish_at_drive_alone,
+    finish_at_host, finish_at_host_alone, skip_call, skip_call_alone,
+};
 use dispatcher::Side;
 use flash_die::Die;
 use gates::Gate;
-use lambda_finishes::{
-    finish_at_drive, finish_at_drive_alone, finish_at_host, finish_at_host_alone,
-};
 use page_base::Page;
 use plain_files::{Numbered, Request};
 use std::alloc::Global;

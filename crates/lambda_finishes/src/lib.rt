@@ -7,7 +7,7 @@ mod host;
 mod solo;
 mod waiting;
 
-pub use call_finishes::System;
+pub use call_finishes::{System, finish_call, finish_call_alone};
 pub use drive::finish_at_drive;
 pub use host::{finish_at_host, finish_at_host_alone};
 pub use solo::finish_at_drive_alone;

@@ -8,3 +8,4 @@ pub use Rattle.call_turns.proofs.Nexts
 pub use Rattle.call_turns.proofs.Taking
 pub use Rattle.call_turns.proofs.FlushSteps
 pub use Rattle.call_turns.proofs.Moves
+pub use Rattle.call_turns.proofs.Steps

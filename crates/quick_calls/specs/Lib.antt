@@ -11,3 +11,5 @@ pub use Rattle.call_turns.specs.Ways
 pub use Rattle.call_turns.specs.Books
 pub use Rattle.call_turns.specs.MetaAnswer
 pub use Rattle.call_turns.specs.Making
+pub use Rattle.call_turns.specs.LaneTurns
+pub use Rattle.call_turns.specs.MadeAnswer

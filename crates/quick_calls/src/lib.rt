@@ -7,8 +7,8 @@ mod quick;
 mod skip;
 
 pub use call_turns::{
-    Begun, Loading, MetaOut, System, turn_begin, turn_end_sync, turn_flush_in, turn_meta_in,
-    turn_meta_out, turn_skip,
+    Begun, Loading, Made, MetaOut, System, make_room, turn_begin, turn_end_sync, turn_flush_in,
+    turn_meta_in, turn_meta_out, turn_skip,
 };
 pub use quick::{quick_call, quick_call_alone};
 pub use skip::{skip_call, skip_call_alone};

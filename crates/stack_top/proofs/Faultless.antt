@@ -27,7 +27,7 @@ use Rattle.core_plans.specs.Lines.{FailAsTold}
 use Rattle.core_plans.proofs.Unfaulted.{none_fail, none_lost}
 use Rattle.system_metas.specs.Encode.{encode}
 use Rattle.mounted_systems.specs.Dealt.{opening_of}
-use Rattle.solo_runs.specs.Lines.{script_of}
+use Rattle.solo_drives.specs.Lines.{script_of}
 use Rattle.solo_drives.specs.Runs.{LastSyncFails}
 use Rattle.stack_top.specs.declared.plan.Plan.{Plan}
 use Rattle.stack_top.specs.declared.refusal.Refusal.{Refusal}

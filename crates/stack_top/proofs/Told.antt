@@ -19,8 +19,8 @@ use Rattle.plain_files.specs.Plain.{State, Function}
 use Rattle.plain_files.specs.History.{Entry, Legal, Serves}
 use Rattle.log_text.specs.Told.{IsTold}
 use Rattle.log_text.proofs.Lanes.{lanes_are_there}
-use Rattle.solo_runs.specs.declared.logs.LaneLog.{LaneLog}
-use Rattle.solo_runs.specs.Logs.{AreLogs}
+use Rattle.solo_drives.specs.LaneLogs.{LaneLog}
+use Rattle.solo_drives.specs.Logs.{AreLogs}
 use Rattle.plain_image.specs.declared.drive.PlainDrive.{PlainDrive}
 use Rattle.plain_image.specs.Drives.{plain_file, machine_on, drive_in, drive_of}
 use Rattle.plain_image.specs.Opened.{Opened, opened}
@@ -33,7 +33,7 @@ use Rattle.core_solo.specs.Solo.{SoloRun}
 use Rattle.system_metas.specs.Encode.{encode}
 use Rattle.system_state.specs.Settled.{mounted_file, mounted_of}
 use Rattle.mounted_systems.specs.Dealt.{opening_of}
-use Rattle.solo_runs.specs.Lines.{script_of}
+use Rattle.solo_drives.specs.Lines.{script_of}
 use Rattle.solo_drives.specs.declared.running.DriveImage.{DriveImage}
 use Rattle.solo_drives.specs.declared.running.DriveImage.TheVariants.{NotAsked, Whole, Lost}
 use Rattle.solo_drives.specs.declared.running.DriveRun.{DriveRun}

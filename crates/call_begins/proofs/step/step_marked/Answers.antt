@@ -1,7 +1,7 @@
 use Rattle.std.proofs.Common.{true, Ok, subst}
 use Rattle.system_state.specs.Cores.{core_of}
 use Rattle.desk_turns.specs.Passing.{Turn}
-use Rattle.page_steps.specs.LaneTurns.{SkipSays}
+use Rattle.quick_calls.specs.LaneTurns.{SkipSays}
 use Rattle.call_begins.specs.declared.step.BeginStep.TheVariants.{Ended, Waits}
 use Rattle.call_begins.proofs.Stepping.{skipped_step, awaits_step, skipped_told, begins_at}
 use Rattle.call_begins.proofs.step.step_marked.Goals as goal

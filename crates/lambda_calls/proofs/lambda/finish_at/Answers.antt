@@ -4,7 +4,7 @@ use Rattle.dispatcher.specs.declared.side.Side.{Side}
 use Rattle.system_state.specs.Cores.{core_of}
 use Rattle.desk_turns.specs.Passing.{core_seen}
 use Rattle.data_calls.specs.Books.{opening_in}
-use Rattle.lambda_finishes.specs.Finishing.{IsBegunAt}
+use Rattle.data_calls.specs.Finishing.{IsBegunAt}
 use Rattle.lambda_calls.proofs.lambda.finish_at.Goals as goal
 
 pub finish_at_host-requires-clause-begun : goal.finish_at_host-requires-clause-begun

@@ -7,7 +7,7 @@ use Rattle.system_state.specs.Cores.{core_of}
 use Rattle.desk_turns.specs.Passing.{core_seen}
 use Rattle.data_calls.specs.Books.{opening_in}
 use Rattle.data_calls.proofs.Whole.{self_prepared, numbered_as}
-use Rattle.lambda_finishes.specs.Finishing.{AreOfCall}
+use Rattle.data_calls.specs.Finishing.{AreOfCall}
 use Rattle.lambda_calls.proofs.Whole.{takes_served, lambda_prepared, lambda_skipped}
 use Rattle.lambda_calls.proofs.lambda.lambda_call_alone.Goals as goal
 

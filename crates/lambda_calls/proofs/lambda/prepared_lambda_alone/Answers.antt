@@ -5,7 +5,7 @@ use Rattle.desk_turns.specs.Passing.{core_seen}
 use Rattle.data_calls.specs.Books.{opening_in}
 use Rattle.data_calls.specs.Words.{IsSmall}
 use Rattle.data_calls.proofs.Whole.{ended_told, numbered_as}
-use Rattle.lambda_finishes.specs.Finishing.{AreOfCall}
+use Rattle.data_calls.specs.Finishing.{AreOfCall}
 use Rattle.lambda_calls.proofs.Whole.{takes_served, start_worn, ended_call, begun_there, asked_there, begun_call, alone_there, begun_told, job_as, begun_ok}
 use Rattle.lambda_calls.proofs.lambda.prepared_lambda_alone.Goals as goal
 
