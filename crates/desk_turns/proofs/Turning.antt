@@ -107,6 +107,7 @@ module _ {S : Type 0} (core : S → Core) (stands : S → S → List (Entry Even
         events = es;
         seen = seen;
         own = ap (λ (z : View (Snapshot S) Event). z.own) vis ∙ own;
+        settled = ap (λ k. entries_of k w.seen) (sym n) ∙ (ap (λ (z : View (Snapshot S) Event). entries_of u.number z.seen) vis ∙ sym (ap (λ (z : View (Snapshot S) Event). z.own) vis));
         pass = vis ∙ (ap (λ (z : View (Snapshot S) Event). seeing z false end (entries_of u.number end)) sees.0.0
             ∙ (λ i. seeing v false (ap (λ (z : View (Snapshot S) Event). z.seen) (sym vis) i) (ap (λ (z : View (Snapshot S) Event). z.own) (sym vis) i)));
         alone = λ e. cancel v.seen between (sym is ∙ alone e);

@@ -7,7 +7,7 @@ use Rattle.std.specs.declared.snapshot.Snapshot.{Snapshot}
 use Rattle.turn_cell.specs.declared.book.Entry.{Entry}
 use Rattle.turn_cell.specs.declared.view.View.{View}
 use Rattle.turn_cell.specs.Events.{events_of}
-use Rattle.turn_cell.specs.History.{entry, StartsWith}
+use Rattle.turn_cell.specs.History.{entry, entries_of, StartsWith}
 use Rattle.turn_cell.specs.Steps.{seeing}
 use Rattle.core_state.specs.declared.actor.Actor.{Actor}
 use Rattle.core_state.specs.declared.actor.Actor.TheVariants.{Lane, Worker, Flusher, Closer}
@@ -48,13 +48,14 @@ module _ {S : Type 0} (core : S → Core) where
   abbrev pub core_seen : Snapshot S → View (Snapshot S) Event → Core
   core_seen o v = core_after o v.seen
 
-  -- One turn: others made what is between, and then the pass made its events, none or one, in the core that it found. What an actor of
-  -- the pass holds is found again as it was.
+  -- One turn: others made what is between, and then the pass made its events, none or one, in the core that it found. What the pass made is
+  -- then all that its number has in the history. What an actor of the pass holds is found again as it was.
   pub record Turn (o : Snapshot S) (v w : View (Snapshot S) Event) (P : Core → List Event → Type 0) : Type 0 where
     pub between : List (Entry Event)
     pub events : List Event
     pub seen : w.seen ≡ (v.seen ++ between) ++ map (entry v.number) events
     pub own : w.own ≡ v.own ++ map (entry v.number) events
+    pub settled : entries_of v.number w.seen ≡ w.own
     pub pass : w ≡ seeing v false w.seen w.own
     pub alone : v.alone ≡ true → between ≡ []
     pub begins : CoreRun (core o.value) (events_of (v.seen ++ between)) (core_after o (v.seen ++ between))
@@ -72,10 +73,12 @@ module _ {S : Type 0} (core : S → Core) where
     pub says : P (core_after o before)
 
 module _ {S : Type 0} where
-  -- in any number of turns the pass made these events, and saw what was made
+  -- In any number of turns the pass made these events, and saw what was made. Where what it had made was all that its number had in what it had
+  -- seen, it is so again.
   pub record Went (v w : View (Snapshot S) Event) (events : List Event) : Type 0 where
     pub own : w.own ≡ v.own ++ map (entry v.number) events
     pub seen : StartsWith w.seen v.seen
+    pub settled : entries_of v.number v.seen ≡ v.own → entries_of v.number w.seen ≡ w.own
     pub alone : v.alone ≡ true → w.seen ≡ v.seen ++ map (entry v.number) events
     pub pass : w ≡ seeing v w.holding w.seen w.own
 

@@ -119,7 +119,6 @@ numbered core o v w P e lane call n t is a =
     let last : (core_after core o h).last ≡ (core o.value).last + length (calls_of (events_of h)) = run_numbered (events_of h) (core o.value) (core_after core o h) t.begins in
     record {
       before = calls_of (events_of h);
-      rest = [];
       split = ap calls_of events ∙ (calls_append (events_of h) (e ∷ []) ∙ ap (λ (z : Option CallEntry). calls_of (events_of h) ++ and_then z []) a.ends);
       number_is = a.number ∙ ap (λ (k : ℕ). k + 1) last;
     }

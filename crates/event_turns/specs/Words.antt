@@ -24,11 +24,10 @@ pub record IsAnswered (c : Core) (e : Event) (lane : ℕ) (call : Call) (n : Num
   pub number : n.number ≡ c.last + 1
   pub ends : entry_of e ≡ Some (record { lane = lane; call = call; reply = n.reply })
 
--- it is the call of this number among those that have ended since `last` was drawn
+-- it is the last of the calls that have ended since `last` was drawn, and the number is that of it among them
 pub record IsNumbered (last : ℕ) (calls : List Entry) (number : ℕ) (entry : Entry) : Type 0 where
   pub before : List Entry
-  pub rest : List Entry
-  pub split : calls ≡ before ++ entry ∷ rest
+  pub split : calls ≡ before ++ entry ∷ []
   pub number_is : number ≡ last + length before + 1
 
 -- No number that was drawn, no count and no version is above 2^62: a turn has fewer events than that, so that all of them stay below 2^64.

@@ -18,7 +18,8 @@ use Rattle.system_state.specs.declared.errand.Errand.{Errand}
 use Rattle.system_state.specs.declared.state.State.{State}
 use Rattle.system_pages.specs.Back.{FillBack, fill_in_event}
 use Rattle.system_pages.proofs.Filled.{page_is}
-use Rattle.desk_turns.specs.Passing.{core_after, Turn}
+use Rattle.desk_turns.specs.Passing.{Turn}
+use Rattle.desk_turns.proofs.Went.{says_too}
 use Rattle.event_turns.specs.Flushing.{HasFailed}
 use Rattle.event_turns.specs.PageTurns.{FillSays, IsFillInHand}
 use Rattle.fill_steps.specs.Pages.{ComesHome, IsRead}
@@ -43,27 +44,10 @@ module _ {D J : Type 0} (seen : D → DieView) where
   abbrev C : State D J → Core
   C = core_of seen
 
-  -- the same turn, of which something else is said
-  pub says_too : (o : Snapshot (State D J)) (v w : View (Snapshot (State D J)) Event) (P Q : Core → List Event → Type 0) → ((c : Core) (es : List Event) → P c es → Q c es) → Turn C o v w P → Turn C o v w Q
-  says_too o v w P Q f t =
-      record {
-        between = t.between;
-        events = t.events;
-        seen = t.seen;
-        own = t.own;
-        pass = t.pass;
-        alone = t.alone;
-        begins = t.begins;
-        run = t.run;
-        coherent = t.coherent;
-        kept = t.kept;
-        says = f (core_after C o (v.seen ++ t.between)) t.events t.says;
-      }
-
   pub read_back : (o : Snapshot (State D J)) (v w : View (Snapshot (State D J)) Event) (a : Actor) (lane i : ℕ) (first before page : Page) (good : Bool) (e f : Errand D) → IsSameErrand e f → HasRead seen f good first before → Turn C o v w (ComesHome a lane i f before page) →
       Turn C o v w (IsRead a lane i e.number page good)
   read_back o v w a lane i first before page good e f same read t =
-      says_too o v w (ComesHome a lane i f before page) (IsRead a lane i e.number page good) (is_read seen a lane i first before page good e f same read) t
+      says_too C o v w (ComesHome a lane i f before page) (IsRead a lane i e.number page good) (is_read seen a lane i first before page good e f same read) t
 
   -- the count of a die rose that failed to read
   pub rose_by : (o : Snapshot (State D J)) (v w : View (Snapshot (State D J)) Event) (a : Actor) (lane i : ℕ) (before page : Page) (good : Bool) (e f : Errand D) → IsFillInHand seen o v.seen a lane i e → IsSameErrand e f → HasRead seen f good before page → StartsWith w.seen v.seen → good ≡ false → HasFailed seen o v w e.number

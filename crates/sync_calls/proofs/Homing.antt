@@ -1,5 +1,5 @@
 -- A die writes for a `sync`, and comes home.
-use Rattle.std.proofs.Common.{◌≡◌, ℕ, ◌<◌, Bool, false, List, [], ◌∷◌, ◌++◌, sym, ap, ◌∙◌, subst, append-nil}
+use Rattle.std.proofs.Common.{◌≡◌, ℕ, ◌<◌, Bool, false, [], ◌∷◌, ◌++◌, sym, ap, ◌∙◌, subst, append-nil}
 use Rattle.std.specs.declared.snapshot.Snapshot.{Snapshot}
 use Rattle.turn_cell.specs.declared.view.View.{View}
 use Rattle.turn_cell.specs.History.{StartsWith}
@@ -8,34 +8,17 @@ use Rattle.core_state.specs.declared.actor.Actor.{Actor}
 use Rattle.core_state.specs.declared.actor.Actor.TheVariants.{Lane}
 use Rattle.core_state.specs.declared.event.Event.{Event}
 use Rattle.core_state.specs.declared.event.Event.TheVariants.{FlushIn, MetaIn}
-use Rattle.core_state.specs.State.{Page, Errand as Purpose, Core}
+use Rattle.core_state.specs.State.{Page, Errand as Purpose}
 use Rattle.system_state.specs.Cores.{core_of}
 use Rattle.system_state.specs.Errands.{HasWritten, IsSameErrand, left_by, succeeded}
 use Rattle.system_state.specs.declared.errand.Errand.{Errand}
 use Rattle.system_state.specs.declared.state.State.{State}
 use Rattle.system_dies.specs.Coming.{flush_in_event}
 use Rattle.system_metas.specs.Coming.{meta_in_event}
-use Rattle.desk_turns.specs.Passing.{core_after, Turn}
+use Rattle.desk_turns.specs.Passing.{Turn}
+use Rattle.desk_turns.proofs.Went.{says_too}
 use Rattle.quick_calls.specs.Flushing.{IsInHand, HasFailed}
 use Rattle.sync_calls.specs.Writes.{BlockBack, PageBack}
-
-module _ {S : Type 0} (core : S → Core) where
-  -- the same turn, of which something else is said
-  pub says_too : (o : Snapshot S) (v w : View (Snapshot S) Event) (P Q : Core → List Event → Type 0) → ((c : Core) (es : List Event) → P c es → Q c es) → Turn core o v w P → Turn core o v w Q
-  says_too o v w P Q f t =
-      record {
-        between = t.between;
-        events = t.events;
-        seen = t.seen;
-        own = t.own;
-        pass = t.pass;
-        alone = t.alone;
-        begins = t.begins;
-        run = t.run;
-        coherent = t.coherent;
-        kept = t.kept;
-        says = f (core_after core o (v.seen ++ t.between)) t.events t.says;
-      }
 
 module _ {D J : Type 0} (seen : D → DieView) where
   pub block_back : (o : Snapshot (State D J)) (v w : View (Snapshot (State D J)) Event) (lane : ℕ) (page : Page) (good : Bool) (e f : Errand D) → IsSameErrand e f → HasWritten seen f good page →
