@@ -1,6 +1,6 @@
 -- Fewer words than a key and its value.
 use Rattle.std.proofs.Common.{◌≡◌, ℕ, ◌<◌, List, [], ◌∷◌, length, map, Bool, eqb, refl, arith}
-use Rattle.std.specs.Prelude.{Option, Some, None}
+use Rattle.std.specs.Prelude.{None}
 use Rattle.command_words.specs.Options.{given, are_options}
 
 -- none is given

@@ -4,7 +4,6 @@ use Rattle.page_base.specs.Drive.{Drive}
 use Rattle.sbpf_text.specs.Numbers.{decimal_number}
 use Rattle.command_words.specs.declared.command.Command.{Command}
 use Rattle.command_words.specs.declared.command.Command.TheVariants as command
-use Rattle.command_words.specs.declared.command.Pieces.{Pieces}
 use Rattle.command_words.specs.declared.command.Quiet.{Quiet}
 use Rattle.command_words.specs.declared.command.Quiet.TheVariants as quiet
 use Rattle.command_words.specs.declared.command.Run.{Run}
@@ -12,7 +11,7 @@ use Rattle.command_words.specs.declared.command.Scan.{Scan}
 use Rattle.command_words.specs.declared.options.Crew.{Crew}
 use Rattle.command_words.specs.declared.options.Setup.{Setup}
 use Rattle.command_words.specs.Options.{solo_options, run_options}
-use Rattle.command_words.specs.Places.{is_file_word, are_two, are_files, number_in, drive_of, width_of, param_of}
+use Rattle.command_words.specs.Places.{PieceRun, is_file_word, are_two, are_files, number_in, drive_of, width_of, param_of}
 
 -- ---- each command, behind its own word
 
@@ -97,14 +96,14 @@ select_of (image ∷ file ∷ pred ∷ width ∷ []) = select_named image file p
 select_of _ = None
 
 -- `IMAGE FILE OBJ CHUNK FUEL CAP PARAM`
-abbrev pub pieces : Option ℕ → Option ℕ → Option ℕ → Option Pieces
+abbrev pub pieces : Option ℕ → Option ℕ → Option ℕ → Option PieceRun
 pieces (Some chunk) (Some fuel) (Some cap) = Some (record { chunk = chunk; fuel = fuel; cap = cap })
 pieces _ _ _ = None
 
-unfoldable pub pieces_of : List ℕ → List ℕ → List ℕ → Option Pieces
+unfoldable pub pieces_of : List ℕ → List ℕ → List ℕ → Option PieceRun
 pieces_of chunk fuel cap = pieces (number_in 1 262144 chunk) (number_in 0 4294967296 fuel) (number_in 0 4096 cap)
 
-abbrev pub scan_with : List ℕ → List ℕ → List ℕ → Option Pieces → Option (List ℕ) → Option Scan
+abbrev pub scan_with : List ℕ → List ℕ → List ℕ → Option PieceRun → Option (List ℕ) → Option Scan
 scan_with image file object (Some pieces) (Some param) =
     if are_files image file object
     then Some (record { image = image; file = file; object = object; pieces = pieces; param = param })

@@ -36,6 +36,12 @@ drive_of blocks dies = sizes (number_in 1 65536 blocks) (number_in 1 16 dies)
 abbrev pub width_of : List ℕ → Option ℕ
 width_of word = number_in 1 4096 word
 
+-- how a function runs on each piece of a file: the bytes of a piece, the fuel of a run, and the bytes of its output
+pub record PieceRun : Type 0 where
+  pub chunk : ℕ
+  pub fuel : ℕ
+  pub cap : ℕ
+
 -- an even number of hexadecimal digits
 abbrev pub is_hex : List ℕ → Bool
 is_hex digits = length digits % 2 == 0 && list_all is_hex_digit digits

@@ -1,8 +1,10 @@
 //! Commands.
 
 use crate::options::{Crew, Setup};
+use crate::params::Param;
+use crate::pieces::Pieces;
 use crate::places::Width;
-use edge_io::{Bytes, Text};
+use edge_io::Text;
 use page_base::Geometry;
 
 /// A command that neither waits nor starts threads, with its words in their order.
@@ -65,15 +67,6 @@ pub enum Quiet {
     },
 }
 
-/// How a file is cut into pieces, and how a function runs over each: the bytes of a piece, the fuel, and the
-/// capacity of its output.
-#[derive(Clone, Copy, Debug, PartialEq, Eq)]
-pub struct Pieces {
-    pub chunk: u32,
-    pub fuel: u64,
-    pub cap: u32,
-}
-
 /// `scan IMAGE FILE OBJ CHUNK FUEL CAP PARAM`
 #[derive(Drop)]
 pub struct Scan {
@@ -81,7 +74,7 @@ pub struct Scan {
     pub file: Text,
     pub object: Text,
     pub pieces: Pieces,
-    pub param: Bytes,
+    pub param: Param,
 }
 
 /// `run IMAGE SCRIPT OUT` and options

@@ -3,33 +3,16 @@ ghost use Rattle.std.specs.Prelude.{◌≡◌, map, string_bytes, IfOk, OnErr, I
 ghost use Rattle.command_words.specs.Places.{param_of};
 ghost use Rattle.command_words.specs.Commands.{pieces_of, scan_with, scan_of, run_named, run_of, quiet_named, quiet_of, asked_quiet, asked_scan, asked_run, command_named, command_of};
 
-use crate::command::{Command, Pieces, Quiet, Run, Scan};
-use crate::numbers::{number_in, wide_number_in};
+use crate::command::{Command, Quiet, Run, Scan};
 use crate::options::{Crew, Setup, run_options};
-use crate::params::param_of;
+use crate::params::{Param, param_of};
+use crate::pieces::{Pieces, pieces_of};
 use crate::places::{are_files, text};
 use crate::quiet::{
     asm_of, bench_of, check_of, disasm_of, elf_of, mkimage_of, predc_of, select_of, solo_of,
     verify_of,
 };
-use edge_io::Bytes;
 use std::alloc::{AllocError, Global};
-
-/// The most bytes of a piece of a file.
-const MOST_CHUNK: u32 = 262_144;
-
-/// The most fuel of a run.
-const MOST_FUEL: u64 = 4_294_967_296;
-
-#[tactic(auto, unfolding(crate::specs::Commands::pieces_of))]
-fn pieces_of(chunk: &str, fuel: &str, cap: &str) -> Option<Pieces>
-    ensures { result ≡ pieces_of chunk.now fuel.now cap.now }
-{
-    let chunk = number_in(1, MOST_CHUNK, chunk.as_bytes())?;
-    let fuel = wide_number_in(0, MOST_FUEL, fuel.as_bytes())?;
-    let cap = number_in(0, 4096, cap.as_bytes())?;
-    Some(Pieces { chunk, fuel, cap })
-}
 
 // No word is judged here.
 fn scan_named(
@@ -38,7 +21,7 @@ fn scan_named(
     file: &str,
     object: &str,
     pieces: Pieces,
-    param: Bytes,
+    param: Param,
 ) -> Result<Scan, AllocError>
     ensures { IfOk result (λ scan. scan ≡ record { image = image.now; file = file.now; object = object.now; pieces = pieces; param = param }) }
 {

@@ -6,12 +6,15 @@ mod commands;
 mod numbers;
 mod options;
 mod params;
+mod pieces;
 mod places;
 mod quiet;
 
-pub use command::{Command, Pieces, Quiet, Run, Scan};
+pub use command::{Command, Quiet, Run, Scan};
 pub use commands::{command_of, quiet_of};
 pub use options::{Crew, DieKind, Setup};
+pub use params::Param;
+pub use pieces::Pieces;
 pub use places::Width;
 
 #[cfg(test)]

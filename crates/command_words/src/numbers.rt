@@ -77,7 +77,8 @@ pub fn number_in(low: u32, high: u32, word: &[u8]) -> Option<u32>
 
 // The same, with bounds up to 2^64.
 pub fn wide_number_in(low: u64, high: u64, word: &[u8]) -> Option<u64>
-    ensures { result ≡ number_in low high word.now }
+    ensures is { result ≡ number_in low high word.now }
+    ensures within { IfSome result (λ n. (low ≤ n) × (n ≤ high)) }
 {
     let n = decimal_number(word)?;
     if low <= n && n <= high { Some(n) } else { None }
