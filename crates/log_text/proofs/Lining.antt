@@ -8,8 +8,8 @@ use Rattle.plain_files.specs.History.{Entry, calls_in}
 use Rattle.script_words.specs.declared.script.Lane.{Lane}
 use Rattle.script_words.specs.Lanes.{lane_names}
 use Rattle.transcript_text.specs.Print.{reply_line, entry_lines}
-use Rattle.solo_runs.specs.declared.logs.LaneLog.{LaneLog}
-use Rattle.solo_runs.specs.Logs.{replies_to}
+use Rattle.lane_logs.specs.declared.logs.LaneLog.{LaneLog}
+use Rattle.lane_logs.specs.Logs.{replies_to}
 use Rattle.log_text.specs.Told.{IsTold}
 use Rattle.log_text.specs.Places.{place_behind, ArePlaces}
 use Rattle.log_text.proofs.Told.{reply_at, told_there, each_of}

@@ -5,8 +5,8 @@ use Rattle.std.proofs.lemmas.List.{length-set}
 use Rattle.std.proofs.lemmas.Option.{slice_get_read, slice_get_within, same_Some}
 use Rattle.plain_files.specs.declared.calls.Numbered.{Numbered}
 use Rattle.plain_files.specs.History.{Entry, calls_in}
-use Rattle.solo_runs.specs.declared.logs.LaneLog.{LaneLog}
-use Rattle.solo_runs.specs.Logs.{replies_to}
+use Rattle.lane_logs.specs.declared.logs.LaneLog.{LaneLog}
+use Rattle.lane_logs.specs.Logs.{replies_to}
 use Rattle.log_text.specs.Told.{IsTold}
 use Rattle.log_text.specs.Places.{place_behind, ArePlacesBelow, ArePlaces, IsLogOf, HasNoted}
 use Rattle.log_text.proofs.Told.{reply_at, calls_below, below_more, below_all, below_few, replies_few, told_there, told_of, each_of}

@@ -8,7 +8,7 @@ use Rattle.plain_files.specs.declared.calls.Numbered.{Numbered}
 use Rattle.plain_files.specs.declared.calls.Call.{Call}
 use Rattle.plain_files.specs.declared.calls.Reply.{Reply}
 use Rattle.plain_files.specs.History.{Entry, calls_in}
-use Rattle.solo_runs.specs.Logs.{replies_to}
+use Rattle.lane_logs.specs.Logs.{replies_to}
 
 abbrev pub reply_at : ℕ → Reply → Numbered
 reply_at number reply = record { number = number; reply = reply }

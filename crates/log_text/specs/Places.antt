@@ -1,8 +1,8 @@
 -- Where the replies to calls stand in the logs of lanes. This project's own.
 use Rattle.std.specs.Prelude.{◌≡◌, ◌≢◌, ℕ, ◌+◌, ◌<◌, ◌^◌, List, length, take, slice_get, Some}
 use Rattle.plain_files.specs.History.{Entry, calls_in}
-use Rattle.solo_runs.specs.declared.logs.LaneLog.{LaneLog}
-use Rattle.solo_runs.specs.Logs.{replies_to}
+use Rattle.lane_logs.specs.declared.logs.LaneLog.{LaneLog}
+use Rattle.lane_logs.specs.Logs.{replies_to}
 
 -- the place of the call that follows others: its lane, and its number in the lane, from 1
 abbrev pub place_behind : List Entry → Entry → ℕ × ℕ

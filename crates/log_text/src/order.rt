@@ -4,7 +4,7 @@ ghost use Rattle.plain_files.specs.History.{Entry};
 ghost use Rattle.log_text.specs.Told.{IsTold};
 ghost use Rattle.log_text.specs.Places.{ArePlaces, HasNoted, IsLogOf};
 
-use solo_runs::LaneLog;
+use lane_logs::LaneLog;
 use std::alloc::{AllocError, Global};
 
 // How many replies the logs have.

@@ -7,8 +7,8 @@ ghost use Rattle.log_text.specs.Told.{IsTold};
 ghost use Rattle.log_text.specs.Places.{place_behind};
 
 use crate::order::places_of;
+use lane_logs::LaneLog;
 use script_words::Script;
-use solo_runs::LaneLog;
 use std::alloc::{AllocError, Global};
 use system_state::Places;
 use transcript_text::{places_line, reply_line};

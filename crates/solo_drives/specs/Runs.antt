@@ -26,7 +26,7 @@ use Rattle.system_metas.specs.Encode.{encode}
 use Rattle.system_state.specs.Settled.{mounted_of}
 use Rattle.mounted_systems.specs.Dealt.{opening_of}
 use Rattle.solo_runs.specs.Lines.{script_of}
-use Rattle.solo_runs.specs.Logs.{AreLogs}
+use Rattle.lane_logs.specs.Logs.{AreLogs}
 use Rattle.solo_drives.specs.declared.running.DriveImage.{DriveImage}
 use Rattle.solo_drives.specs.declared.running.DriveImage.TheVariants.{NotAsked, Whole, Lost}
 use Rattle.solo_drives.specs.declared.running.DriveRun.{DriveRun}

@@ -12,10 +12,10 @@ use crate::kinds::{run_ftl, run_memory, run_mirror};
 use command_words::DieKind;
 use dispatcher::Place;
 use image_format::Meta;
+use lane_logs::LaneLog;
 use page_base::{NoMemory, Page};
 use script_words::Script;
 use solo_calls::Calls;
-use solo_runs::LaneLog;
 use std::alloc::Global;
 use system_state::Places;
 

@@ -1,6 +1,6 @@
 pub mod Ends
 pub mod Between
-pub mod Logging
+pub mod LinesTold
 pub mod Lining
 pub mod Running
 pub mod Whole

@@ -30,12 +30,12 @@ use Rattle.system_metas.specs.Encode.{encode}
 use Rattle.desk_turns.specs.Passing.{core_seen, Went, Does}
 use Rattle.desk_turns.proofs.Turning.{events_more}
 use Rattle.desk_turns.proofs.Went.{went_on, went_none}
-use Rattle.solo_runs.specs.declared.logs.LaneLog.{LaneLog}
+use Rattle.lane_logs.specs.declared.logs.LaneLog.{LaneLog}
 use Rattle.solo_runs.specs.Line.{HasAnswered}
-use Rattle.solo_runs.specs.Logs.{AreLogs, HaveRoom}
+use Rattle.lane_logs.specs.Logs.{AreLogs, HaveRoom}
 use Rattle.solo_runs.specs.Lines.{script_of, IsOrdered, IsBetween, AreCallsOf, HasMadeLine, HaveMade, OneSays, LinesSay}
 use Rattle.solo_runs.proofs.Between.{between_next}
-use Rattle.solo_runs.proofs.Logging.{lines_left}
+use Rattle.solo_runs.proofs.LinesTold.{lines_left}
 
 -- ---- lists
 

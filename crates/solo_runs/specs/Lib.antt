@@ -1,4 +1,3 @@
 pub mod Line
-pub mod Logs
 pub mod Lines
 pub mod Run

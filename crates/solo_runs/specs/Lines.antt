@@ -19,7 +19,7 @@ use Rattle.system_state.specs.Cores.{core_of}
 use Rattle.system_state.specs.declared.state.State.{State}
 use Rattle.system_metas.specs.Encode.{encode}
 use Rattle.desk_turns.specs.Passing.{core_seen}
-use Rattle.solo_runs.specs.Logs.{replies_to}
+use Rattle.lane_logs.specs.Logs.{replies_to}
 
 -- the requests of each lane, and the order of the lines
 abbrev pub script_of : ScriptLines → Script

@@ -6,13 +6,11 @@
 
 mod line_calls;
 mod lines;
-mod logs;
 mod making;
 mod run;
 mod turns;
 
 pub use line_calls::LineCalls;
-pub use logs::{LaneLog, empty_logs};
 pub use making::make_run;
 pub use run::{Ran, run_over};
 pub use settling::Settled;

@@ -9,12 +9,12 @@ ghost use Rattle.system_state.specs.Cores.{core_of};
 ghost use Rattle.desk_turns.specs.Passing.{core_seen, Does};
 ghost use Rattle.settling.specs.Books.{opening_in};
 ghost use Rattle.settling.specs.Words.{IsSmall};
-ghost use Rattle.solo_runs.specs.Logs.{AreLogs, HaveRoom};
+ghost use Rattle.lane_logs.specs.Logs.{AreLogs, HaveRoom};
 ghost use Rattle.solo_runs.specs.Lines.{script_of, IsOrdered, IsBetween, AreCallsOf, OneSays, LinesSay};
 
 use crate::line_calls::LineCalls;
-use crate::logs::{LaneLog, note};
 use flash_die::Die;
+use lane_logs::{LaneLog, note};
 use script_words::Script;
 use settling::System;
 use system_state::CallJob;

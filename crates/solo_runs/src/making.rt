@@ -9,14 +9,14 @@ ghost use Rattle.system_state.specs.Cores.{core_of};
 ghost use Rattle.desk_turns.specs.Passing.{core_seen, Does};
 ghost use Rattle.settling.specs.Books.{opening_in};
 ghost use Rattle.settling.specs.Words.{IsSmall};
-ghost use Rattle.solo_runs.specs.Logs.{AreLogs, HaveRoom};
+ghost use Rattle.lane_logs.specs.Logs.{AreLogs, HaveRoom};
 ghost use Rattle.solo_runs.specs.Lines.{script_of};
 ghost use Rattle.solo_runs.specs.Run.{MayRun, IsRunnable, ScriptSays, HasRun, RunSays};
 
 use crate::line_calls::LineCalls;
 use crate::lines::run_lines;
-use crate::logs::LaneLog;
 use flash_die::Die;
+use lane_logs::LaneLog;
 use page_base::Page;
 use script_words::Script;
 use settling::{Settled, System, settle_alone};

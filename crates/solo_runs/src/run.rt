@@ -12,15 +12,15 @@ ghost use Rattle.system_metas.specs.Encode.{encode};
 ghost use Rattle.settling.specs.Words.{IsSmall};
 ghost use Rattle.settling.specs.Steps.{EndsInFailure};
 ghost use Rattle.settling.specs.declared.last_sync.Settled.TheVariants.{NotAsked, Done, Failed};
-ghost use Rattle.solo_runs.specs.Logs.{AreLogs};
+ghost use Rattle.lane_logs.specs.Logs.{AreLogs};
 ghost use Rattle.solo_runs.specs.Lines.{script_of};
 ghost use Rattle.solo_runs.specs.Run.{MayRun, IsRunnable};
 
 use crate::line_calls::LineCalls;
-use crate::logs::{LaneLog, empty_logs};
 use crate::making::run_whole;
 use crate::turns::{close_turn, open_turn};
 use flash_die::Die;
+use lane_logs::{LaneLog, empty_logs};
 use page_base::{NoMemory, Page};
 use script_words::Script;
 use settling::{Settled, System};

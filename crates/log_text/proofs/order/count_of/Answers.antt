@@ -1,6 +1,6 @@
 use Rattle.std.proofs.Common.{sym, ap, ◌∙◌, arith}
 use Rattle.std.specs.Prelude.{vec_len}
-use Rattle.solo_runs.specs.declared.logs.LaneLog.{LaneLog}
+use Rattle.lane_logs.specs.declared.logs.LaneLog.{LaneLog}
 use Rattle.log_text.proofs.Told.{none_below}
 use Rattle.log_text.proofs.Noting.{count_more, count_all}
 use Rattle.log_text.proofs.order.count_of.Goals as goal

@@ -1,6 +1,6 @@
 use Rattle.std.proofs.Common.{◌≡◌, ℕ, ◌+◌, ◌<◌, List, length, get_or, drop, sym, ap, ◌∙◌, subst, arith}
 use Rattle.std.proofs.lemmas.List.{take_at}
-use Rattle.solo_runs.specs.declared.logs.LaneLog.{LaneLog}
+use Rattle.lane_logs.specs.declared.logs.LaneLog.{LaneLog}
 use Rattle.plain_files.specs.History.{Entry}
 use Rattle.log_text.specs.Told.{IsTold}
 use Rattle.log_text.specs.Places.{IsLogOf, ArePlacesBelow, HasNoted}

@@ -2,7 +2,7 @@ use Rattle.std.proofs.Common.{◌≡◌, ◌+◌, ◌-◌, List, ◌++◌, lengt
 use Rattle.std.specs.Prelude.{vec_len}
 use Rattle.script_words.specs.declared.script.Lane.{Lane}
 use Rattle.script_words.specs.Lanes.{names}
-use Rattle.solo_runs.specs.declared.logs.LaneLog.{LaneLog}
+use Rattle.lane_logs.specs.declared.logs.LaneLog.{LaneLog}
 use Rattle.transcript_text.specs.Print.{reply_line}
 use Rattle.log_text.proofs.Lining.{call_read, reply_in, line_more, lines_all}
 use Rattle.log_text.proofs.printing.reply_lines.Goals as goal

@@ -10,7 +10,7 @@ use Rattle.system_state.specs.Cores.{core_of}
 use Rattle.system_state.specs.Made.{counts_in}
 use Rattle.system_state.specs.declared.state.Places.{Places}
 use Rattle.solo_runs.specs.Lines.{script_of}
-use Rattle.solo_runs.specs.Logs.{AreLogs}
+use Rattle.lane_logs.specs.Logs.{AreLogs}
 use Rattle.solo_drives.proofs.Imaging.{image_told}
 use Rattle.solo_drives.proofs.Orders.{follow_count}
 use Rattle.solo_drives.proofs.whole.run_and_gather.Goals as goal

@@ -8,10 +8,10 @@ use Rattle.script_words.specs.declared.script.Lane.{Lane}
 use Rattle.core_state.specs.History.{calls_of}
 use Rattle.core_solo.specs.Solo.{request_at}
 use Rattle.settling.specs.Books.{opening_in}
-use Rattle.solo_runs.specs.Logs.{AreLogs}
+use Rattle.lane_logs.specs.Logs.{AreLogs}
 use Rattle.solo_runs.specs.Lines.{script_of, AreCallsOf}
 use Rattle.solo_runs.proofs.Between.{asks_of_line}
-use Rattle.solo_runs.proofs.Logging.{calls_next}
+use Rattle.solo_runs.proofs.LinesTold.{calls_next}
 use Rattle.solo_runs.proofs.Lining.{line_lane, line_number, line_asks, calls_one, line_made, take_long}
 use Rattle.solo_runs.proofs.lines.run_line.Goals as goal
 

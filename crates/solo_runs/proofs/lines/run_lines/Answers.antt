@@ -7,9 +7,9 @@ use Rattle.system_state.specs.Cores.{core_of}
 use Rattle.desk_turns.specs.Passing.{core_seen, Does}
 use Rattle.settling.specs.Books.{opening_in}
 use Rattle.settling.specs.Words.{IsSmall}
-use Rattle.solo_runs.specs.Logs.{AreLogs}
+use Rattle.lane_logs.specs.Logs.{AreLogs}
 use Rattle.solo_runs.specs.Lines.{script_of, IsBetween, AreCallsOf, HaveMade}
-use Rattle.solo_runs.proofs.Logging.{no_calls}
+use Rattle.solo_runs.proofs.LinesTold.{no_calls}
 use Rattle.solo_runs.proofs.Lining.{split_at, take_more, take_long, lines_none, lines_on, lines_worn, lines_done}
 use Rattle.solo_runs.proofs.lines.run_lines.Goals as goal
 

@@ -5,7 +5,7 @@ use Rattle.script_words.specs.Lanes.{requests}
 use Rattle.core_state.specs.History.{calls_of}
 use Rattle.desk_turns.specs.Passing.{Does}
 use Rattle.settling.specs.Books.{opening_in}
-use Rattle.solo_runs.specs.Logs.{AreLogs, HaveRoom}
+use Rattle.lane_logs.specs.Logs.{AreLogs, HaveRoom}
 use Rattle.solo_runs.specs.Lines.{script_of, AreCallsOf, HaveMade}
 use Rattle.solo_runs.proofs.lines.run_lines.Given as goal
 

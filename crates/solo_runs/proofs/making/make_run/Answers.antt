@@ -6,7 +6,7 @@ use Rattle.core_closing.specs.Kept.{MaySettle}
 use Rattle.settling.specs.Books.{opening_in}
 use Rattle.solo_lanes.specs.Lanes.{AreHome}
 use Rattle.plain_files.specs.History.{Entry}
-use Rattle.solo_runs.specs.Logs.{AreLogs}
+use Rattle.lane_logs.specs.Logs.{AreLogs}
 use Rattle.solo_runs.specs.Lines.{script_of}
 use Rattle.solo_runs.proofs.Running.{run_unasked, settle_says, run_worn, settle_calls}
 use Rattle.solo_runs.proofs.making.make_run.Goals as goal

@@ -7,7 +7,7 @@ use Rattle.settling.specs.Books.{opening_in}
 use Rattle.settling.specs.Words.{IsSmall}
 use Rattle.solo_lanes.specs.Lanes.{MayAllLeave, HaveLeft, LeaveSays}
 use Rattle.plain_files.specs.History.{Entry}
-use Rattle.solo_runs.specs.Logs.{AreLogs}
+use Rattle.lane_logs.specs.Logs.{AreLogs}
 use Rattle.solo_runs.specs.Lines.{script_of, IsBetween, HaveMade}
 use Rattle.solo_runs.proofs.Lining.{requests_long}
 use Rattle.solo_runs.proofs.Running.{unentered, first_between, none_yet, may_leave, script_run, worn_entering, worn_in_lines, worn_leaving, left_calls}

@@ -6,7 +6,7 @@ use Rattle.settling.specs.Books.{opening_in}
 use Rattle.settling.specs.Words.{IsSmall}
 use Rattle.script_words.specs.declared.script.Lane.{Lane}
 use Rattle.script_words.specs.Lanes.{requests_by_lane}
-use Rattle.solo_runs.specs.Logs.{AreLogs, HaveRoom}
+use Rattle.lane_logs.specs.Logs.{AreLogs, HaveRoom}
 use Rattle.solo_runs.specs.Lines.{script_of}
 use Rattle.solo_runs.specs.Run.{MayRun}
 use Rattle.solo_runs.proofs.Whole.{begins, over}

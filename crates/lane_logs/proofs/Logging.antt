@@ -13,17 +13,15 @@ use Rattle.plain_files.specs.declared.calls.Request.{Request}
 use Rattle.plain_files.specs.History.{Entry, requests_of}
 use Rattle.script_words.specs.declared.script.Lane.{Lane}
 use Rattle.script_words.specs.Lanes.{requests_by_lane}
-use Rattle.core_solo.specs.Settling.{lines_of}
-use Rattle.solo_runs.specs.declared.logs.LaneLog.{LaneLog}
-use Rattle.solo_runs.specs.Logs.{replies_to, AreLogs, HaveRoom}
-use Rattle.solo_runs.specs.Lines.{AreCallsOf}
+use Rattle.lane_logs.specs.declared.logs.LaneLog.{LaneLog}
+use Rattle.lane_logs.specs.Logs.{replies_to, AreLogs, HaveRoom}
 
 abbrev reply_at : ℕ → Reply → Numbered
 reply_at number reply = record { number = number; reply = reply }
 
 -- ---- replies
 
-abbrev one_of : ℕ → ℕ → Entry → List Numbered
+abbrev pub one_of : ℕ → ℕ → Entry → List Numbered
 one_of lane number e = if e.lane == lane then reply_at number e.reply ∷ [] else []
 
 pub replies_more : (lane last : ℕ) (calls : List Entry) (e : Entry) → replies_to lane last (calls ++ e ∷ []) ≡ replies_to lane last calls ++ one_of lane (last + length calls + 1) e
@@ -49,7 +47,7 @@ one_elsewhere lane number e other =
     let t : (e.lane == lane) ≡ false = grind (arith, nat_tests) in
     ap (λ (b : Bool). if b then reply_at number e.reply ∷ [] else []) t
 
-one_long : (lane number : ℕ) (e : Entry) → length (one_of lane number e) ≡ one_if (e.lane == lane)
+pub one_long : (lane number : ℕ) (e : Entry) → length (one_of lane number e) ≡ one_if (e.lane == lane)
 one_long lane number e = go (e.lane == lane)
   where
     go : (t : Bool) → length (if t then reply_at number e.reply ∷ [] else []) ≡ one_if t
@@ -96,36 +94,6 @@ each_again P logs lane new low here each l log at = ⊎_elim
     (λ k. subst (λ (z : ℕ). P z log) (sym k.0) (subst (P lane) (sym k.1) here))
     (λ k. each l log k.1) (at_set logs lane l new log low at)
 
--- ---- calls and lines
-
-lines_more : (l : ℕ) (before : List (ℕ × ℕ)) (line : ℕ × ℕ) → lines_of l (before ++ line ∷ []) ≡ lines_of l before + one_if (line.0 == l)
-lines_more l [] line = omega arith
-lines_more l (x ∷ before) line = let k = lines_more l before line in omega arith
-
-pub calls_next : (last : ℕ) (before : List (ℕ × ℕ)) (line : ℕ × ℕ) (calls : List Entry) (e : Entry) → e.lane ≡ line.0 → AreCallsOf last before calls → AreCallsOf last (before ++ line ∷ []) (calls ++ e ∷ [])
-calls_next last before line calls e of are = record {
-  many = let a = are.many in omega (arith, length-append calls (e ∷ []), length-append before (line ∷ []));
-  each = λ l.
-      let a = are.each l in
-      let b = ap length (replies_more l last calls e) in
-      let d = one_long l (last + length calls + 1) e in
-      let g = ap (λ (k : ℕ). one_if (k == l)) of in
-      let m = lines_more l before line in
-      omega (arith, length-append (replies_to l last calls) (one_of l (last + length calls + 1) e));
-}
-
--- the next line is of a lane that has been told less than it asks
-lines_both : (l : ℕ) (xs ys : List (ℕ × ℕ)) → lines_of l (xs ++ ys) ≡ lines_of l xs + lines_of l ys
-lines_both l [] ys = omega arith
-lines_both l (x ∷ xs) ys = let k = lines_both l xs ys in omega arith
-
-pub lines_left : (lane : ℕ) (before rest : List (ℕ × ℕ)) (line : ℕ × ℕ) → line.0 ≡ lane → lines_of lane before < lines_of lane (before ++ line ∷ rest)
-lines_left lane before rest line same =
-    let t : (line.0 == lane) ≡ true = grind (arith, nat_tests) in
-    let o = ap one_if t in
-    let k = lines_both lane before (line ∷ rest) in
-    omega arith
-
 -- ---- new logs
 
 last_of : {A : Type 0} (xs : List A) (x y : A) (l : ℕ) → slice_get (xs ++ x ∷ []) l ≡ Some y → (slice_get xs l ≡ Some y) ⊎ ((l ≡ length xs) × (x ≡ y))
@@ -156,6 +124,3 @@ one_room_more lanes n x logs log count low here room have l y at = ⊎_elim (λ 
     let b = ap length (ap (requests_of (requests_by_lane lanes)) a ∙ asked_of lanes n x low here) in
     let c = ap (λ (z : LaneLog). vec_capacity z.entries) k.1 in
     omega arith) (last_of logs log y l at)
-
-pub no_calls : (last : ℕ) → AreCallsOf last [] []
-no_calls last = record { many = refl; each = λ l. refl }

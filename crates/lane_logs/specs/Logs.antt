@@ -3,7 +3,7 @@ use Rattle.std.specs.Prelude.{◌≡◌, ◌≤◌, ◌==◌, ℕ, ◌+◌, List
 use Rattle.plain_files.specs.declared.calls.Numbered.{Numbered}
 use Rattle.plain_files.specs.declared.calls.Request.{Request}
 use Rattle.plain_files.specs.History.{Entry, requests_of}
-use Rattle.solo_runs.specs.declared.logs.LaneLog.{LaneLog}
+use Rattle.lane_logs.specs.declared.logs.LaneLog.{LaneLog}
 
 -- The replies to a lane's calls, in their order, each with its number. The first of all calls has the number that follows `last`.
 abbrev pub replies_to : ℕ → ℕ → List Entry → List Numbered

@@ -1,9 +1,9 @@
 use Rattle.std.proofs.Common.{◌≤◌, length, refl, arith}
 use Rattle.std.specs.Prelude.{vec_capacity}
 use Rattle.plain_files.specs.History.{requests_of}
-use Rattle.solo_runs.specs.declared.logs.LaneLog.{LaneLog}
-use Rattle.solo_runs.proofs.Logging.{noted, room_in, each_again}
-use Rattle.solo_runs.proofs.logs.note.Goals as goal
+use Rattle.lane_logs.specs.declared.logs.LaneLog.{LaneLog}
+use Rattle.lane_logs.proofs.Logging.{noted, room_in, each_again}
+use Rattle.lane_logs.proofs.logs.note.Goals as goal
 
 pub returns-clause-logs : goal.returns-clause-logs
 returns-clause-logs c = λ lanes last calls call count are.

@@ -4,8 +4,8 @@ ghost use Rattle.plain_files.specs.declared.calls.Call.{Call};
 ghost use Rattle.plain_files.specs.declared.calls.Request.{Request};
 ghost use Rattle.plain_files.specs.History.{Entry};
 ghost use Rattle.script_words.specs.Lanes.{requests_by_lane};
-ghost use Rattle.solo_runs.specs.declared.logs.LaneLog.{LaneLog as LogView};
-ghost use Rattle.solo_runs.specs.Logs.{AreLogs, HaveRoom};
+ghost use Rattle.lane_logs.specs.declared.logs.LaneLog.{LaneLog as LogView};
+ghost use Rattle.lane_logs.specs.Logs.{AreLogs, HaveRoom};
 
 use page_base::NoMemory;
 use plain_files::{Numbered, Reply};
@@ -38,8 +38,8 @@ pub fn empty_logs(alloc: Global, lanes: &[Lane]) -> Result<Vec<LaneLog>, NoMemor
     Ok(logs)
 }
 
-/// Notes the reply to a call of a lane, the next one of all, with its number.
-pub(crate) fn note(logs: &mut Vec<LaneLog>, lane: u32, number: u64, reply: Reply)
+/// Notes the reply to a call of a lane, the next one of all, with its number. There is room for it.
+pub fn note(logs: &mut Vec<LaneLog>, lane: u32, number: u64, reply: Reply)
     requires lane { lane < length logs.old.items }
     requires room { (log : LogView) → slice_get logs.old.items lane ≡ Some log → length log.entries.items < vec_capacity log.entries }
     ensures logs { (lanes last : ℕ) (calls : List Entry) (call : Call) → number ≡ last + length calls + 1 → AreLogs lanes last calls logs.old.items →

@@ -1,10 +1,10 @@
 use Rattle.std.proofs.Common.{◌≡◌, ◌+◌, ◌≤◌, [], ◌∷◌, refl, sym, ap, ◌∙◌, subst, length, arith, length-append}
-use Rattle.solo_runs.specs.declared.logs.LaneLog.{LaneLog}
-use Rattle.solo_runs.specs.Logs.{AreLogs, HaveRoom}
+use Rattle.lane_logs.specs.declared.logs.LaneLog.{LaneLog}
+use Rattle.lane_logs.specs.Logs.{AreLogs, HaveRoom}
 use Rattle.script_words.specs.declared.script.Lane.{Lane}
 use Rattle.script_words.specs.Lanes.{requests_by_lane}
-use Rattle.solo_runs.proofs.Logging.{one_log_more, one_room_more}
-use Rattle.solo_runs.proofs.logs.empty_logs.Goals as goal
+use Rattle.lane_logs.proofs.Logging.{one_log_more, one_room_more}
+use Rattle.lane_logs.proofs.logs.empty_logs.Goals as goal
 
 pub loop-i-preserved : goal.loop-i-preserved
 loop-i-preserved c =
