@@ -1,6 +1,6 @@
 -- A lane enters, makes its calls, and leaves.
-use Rattle.std.proofs.Common.{◌≡◌, ℕ, ◌<◌, Bool, List, [], ◌∷◌, ◌++◌, Option, Some, None, refl, sym, ap, ◌∙◌, subst, eq-eqb, append-nil, append_assoc}
-use Rattle.std.specs.Prelude.{if◌then◌else◌, is_some, Result, Ok, Err}
+use Rattle.std.proofs.Common.{◌≡◌, ℕ, ◌<◌, ◌≤◌, ◌+◌, Bool, true, false, List, [], ◌∷◌, ◌++◌, map, length, Option, Some, None, refl, sym, ap, ◌∙◌, subst, arith, eq-eqb, append-nil, append_assoc, length-append}
+use Rattle.std.specs.Prelude.{◌==◌, if◌then◌else◌, is_some, Result, Ok, Err}
 use Rattle.std.specs.Result.{IsErr}
 use mathlib.Core.List.{map-append}
 use Rattle.std.specs.declared.snapshot.Snapshot.{Snapshot}
@@ -8,7 +8,8 @@ use Rattle.turn_cell.specs.declared.book.Entry as turn_cell
 use Rattle.turn_cell.specs.declared.view.View.{View}
 use Rattle.turn_cell.specs.declared.pass.Worn.{Worn}
 use Rattle.turn_cell.specs.Events.{events_of}
-use Rattle.turn_cell.specs.History.{StartsWith}
+use Rattle.turn_cell.specs.History.{entry, entries_of, StartsWith}
+use Rattle.turn_cell.proofs.Plain.{entries_append}
 use Rattle.plain_files.specs.declared.calls.Numbered.{Numbered}
 use Rattle.plain_files.specs.declared.calls.Request.{Request}
 use Rattle.plain_files.specs.History.{Entry}
@@ -33,7 +34,7 @@ use Rattle.lane_history.proofs.Cuts.{requests_append}
 use Rattle.page_steps.specs.Making.{IsFree}
 use Rattle.page_steps.specs.Words.{IsNumbered}
 use Rattle.crews.specs.Calls.{HasReplied, CallSays}
-use Rattle.crews.specs.Lanes.{AreLogged, HasCalled, HasRun, CallsSay, LaneSays}
+use Rattle.crews.specs.Lanes.{IsCallOf, AreLogged, HasCalled, HasRun, CallsSay, LaneSays}
 use Rattle.crews.specs.Seats.{IsOutside}
 
 -- ---- a lane in the core
@@ -94,27 +95,95 @@ calls_append (e ∷ es) fs = go (entry_of e) (calls_append es fs)
     go None p = p
     go (Some x) p = ap (λ z. x ∷ z) p
 
-numbered_more : (last number : ℕ) (all more : List Entry) (e : Entry) → IsNumbered last all number e → IsNumbered last (all ++ more) number e
-numbered_more last number all more e n =
+-- how many calls a history has
+abbrev count : List (turn_cell.Entry Event) → ℕ
+count h = length (calls_of (events_of h))
+
+count_append : (h k : List (turn_cell.Entry Event)) → count (h ++ k) ≡ count h + count k
+count_append h k =
+    let long = length-append (calls_of (events_of h)) (calls_of (events_of k)) in
+    ap (λ z. length (calls_of z)) (map-append (λ (e : turn_cell.Entry Event). e.event) h k) ∙ (ap length (calls_append (events_of h) (events_of k)) ∙ long)
+
+count_made : (n : ℕ) (es : List Event) → count (map (entry n) es) ≡ length (calls_of es)
+count_made n es = ap (λ z. length (calls_of z)) (unmade es)
+  where
+    unmade : (es : List Event) → events_of (map (entry n) es) ≡ es
+    unmade [] = refl
+    unmade (e ∷ es) = ap (λ z. e ∷ z) (unmade es)
+
+-- a pass ended no more calls than all did
+count_own : (n : ℕ) (h : List (turn_cell.Entry Event)) → count (entries_of n h) ≤ count h
+count_own n [] = omega arith
+count_own n (x ∷ xs) = one (x.number == n) (count_own n xs)
+  where
+    and_more : (o : Option Entry) (ys zs : List Entry) → length ys ≤ length zs → length (and_then o ys) ≤ length (and_then o zs)
+    and_more None ys zs l = l
+    and_more (Some y) ys zs l = omega arith
+
+    and_some : (o : Option Entry) (ys zs : List Entry) → length ys ≤ length zs → length ys ≤ length (and_then o zs)
+    and_some None ys zs l = l
+    and_some (Some y) ys zs l = omega arith
+
+    one : (b : Bool) → count (entries_of n xs) ≤ count xs → count (if b then (x ∷ entries_of n xs) else entries_of n xs) ≤ length (and_then (entry_of x.event) (calls_of (events_of xs)))
+    one true l = and_more (entry_of x.event) (calls_of (events_of (entries_of n xs))) (calls_of (events_of xs)) l
+    one false l = and_some (entry_of x.event) (calls_of (events_of (entries_of n xs))) (calls_of (events_of xs)) l
+
+-- where a pass has seen all that it made, and ends a call, the history has more calls
+count_grows : (n : ℕ) (h k own : List (turn_cell.Entry Event)) (es : List Event) (e : Entry) → StartsWith k h → entries_of n h ≡ own → entries_of n k ≡ own ++ map (entry n) es → calls_of es ≡ e ∷ [] → count h < count k
+count_grows n h k own es e s was is ends =
+    let all = ap count s.1 ∙ count_append h s.0 in
+    let mine = ap count (sym is ∙ (ap (entries_of n) s.1 ∙ (entries_append n h s.0 ∙ ap (λ z. z ++ entries_of n s.0) was))) in
+    let left = count_append own (map (entry n) es) in
+    let right = count_append own (entries_of n s.0) in
+    let one = count_made n es ∙ ap length ends in
+    let own_less = count_own n s.0 in
+    omega arith
+
+call_more : (last number : ℕ) (all more : List Entry) (e : Entry) → IsCallOf last all number e → IsCallOf last (all ++ more) number e
+call_more last number all more e n =
     record { before = n.before; rest = n.rest ++ more; split = ap (λ z. z ++ more) n.split ∙ append_assoc n.before (e ∷ n.rest) more; number_is = n.number_is }
 
-logged_more : (last : ℕ) (all more : List Entry) (log : List Numbered) (es : List Entry) → AreLogged last all log es → AreLogged last (all ++ more) log es
-logged_more last all more [] [] p = tt
-logged_more last all more [] (e ∷ es) p = p
-logged_more last all more (n ∷ ns) [] p = p
-logged_more last all more (n ∷ ns) (e ∷ es) p = (p.0, numbered_more last n.number all more e p.1, logged_more last all more ns es p.2)
+call_within : (last number : ℕ) (all : List Entry) (e : Entry) → IsCallOf last all number e → number ≤ last + length all
+call_within last number all e n =
+    let long = ap length n.split ∙ length-append n.before (e ∷ n.rest) in
+    let is = n.number_is in
+    omega arith
 
-logged_push : (last : ℕ) (all : List Entry) (log : List Numbered) (es : List Entry) (n : Numbered) (e : Entry) → AreLogged last all log es → n.reply ≡ e.reply → IsNumbered last all n.number e → AreLogged last all (log ++ n ∷ []) (es ++ e ∷ [])
-logged_push last all [] [] n e p same is = (same, is, tt)
-logged_push last all [] (x ∷ xs) n e p same is = absurd p
-logged_push last all (m ∷ ms) [] n e p same is = absurd p
-logged_push last all (m ∷ ms) (x ∷ xs) n e p same is = (p.0, p.1, logged_push last all ms xs n e p.2 same is)
+logged_more : (last floor : ℕ) (all more : List Entry) (log : List Numbered) (es : List Entry) → AreLogged last all floor log es → AreLogged last (all ++ more) floor log es
+logged_more last floor all more [] [] p = tt
+logged_more last floor all more [] (e ∷ es) p = p
+logged_more last floor all more (n ∷ ns) [] p = p
+logged_more last floor all more (n ∷ ns) (e ∷ es) p = (p.0, p.1, call_more last n.number all more e p.2, logged_more last n.number all more ns es p.3)
 
-logged_seen : (last : ℕ) (h k : List (turn_cell.Entry Event)) (log : List Numbered) (es : List Entry) → StartsWith k h → AreLogged last (calls_of (events_of h)) log es → AreLogged last (calls_of (events_of k)) log es
-logged_seen last h k log es s p =
-    let grown : calls_of (events_of k) ≡ calls_of (events_of h) ++ calls_of (events_of s.0)
-    = ap (λ z. calls_of (events_of z)) s.1 ∙ (ap calls_of (map-append (λ (e : turn_cell.Entry Event). e.event) h s.0) ∙ calls_append (events_of h) (events_of s.0)) in
-    subst (λ z. AreLogged last z log es) (sym grown) (logged_more last (calls_of (events_of h)) (calls_of (events_of s.0)) log es p)
+-- one call more, whose number is above those of all calls that had ended
+logged_push : (last floor : ℕ) (all more : List Entry) (log : List Numbered) (es : List Entry) (n : Numbered) (e : Entry) → AreLogged last all floor log es → floor < n.number → last + length all < n.number → n.reply ≡ e.reply → IsCallOf last (all ++ more) n.number e →
+    AreLogged last (all ++ more) floor (log ++ n ∷ []) (es ++ e ∷ [])
+logged_push last floor all more [] [] n e p low above same is = (same, low, is, tt)
+logged_push last floor all more [] (x ∷ xs) n e p low above same is = absurd p
+logged_push last floor all more (m ∷ ms) [] n e p low above same is = absurd p
+logged_push last floor all more (m ∷ ms) (x ∷ xs) n e p low above same is =
+    let within = call_within last m.number all x p.2 in
+    (p.0, p.1, call_more last m.number all more x p.2, logged_push last m.number all more ms xs n e p.3 (omega arith) above same is)
+
+-- the calls of a later history
+calls_later : (h k : List (turn_cell.Entry Event)) → (s : StartsWith k h) → calls_of (events_of k) ≡ calls_of (events_of h) ++ calls_of (events_of s.0)
+calls_later h k s =
+    ap (λ z. calls_of (events_of z)) s.1 ∙ (ap calls_of (map-append (λ (e : turn_cell.Entry Event). e.event) h s.0) ∙ calls_append (events_of h) (events_of s.0))
+
+logged_seen : (last : ℕ) (h k : List (turn_cell.Entry Event)) (log : List Numbered) (es : List Entry) → StartsWith k h → AreLogged last (calls_of (events_of h)) last log es → AreLogged last (calls_of (events_of k)) last log es
+logged_seen last h k log es s p = subst (λ z. AreLogged last z last log es) (sym (calls_later h k s)) (logged_more last last (calls_of (events_of h)) (calls_of (events_of s.0)) log es p)
+
+-- the last of the calls has been logged too
+logged_last : (last : ℕ) (h k : List (turn_cell.Entry Event)) (log : List Numbered) (es : List Entry) (n : Numbered) (e : Entry) → StartsWith k h → count h < count k → AreLogged last (calls_of (events_of h)) last log es → n.reply ≡ e.reply →
+    IsNumbered last (calls_of (events_of k)) n.number e → AreLogged last (calls_of (events_of k)) last (log ++ n ∷ []) (es ++ e ∷ [])
+logged_last last h k log es n e s grown p same number =
+    let all = calls_of (events_of h) in
+    let more = calls_of (events_of s.0) in
+    let later = calls_later h k s in
+    let call : IsCallOf last (all ++ more) n.number e = record { before = number.before; rest = []; split = sym later ∙ number.split; number_is = number.number_is } in
+    let long = ap length number.split ∙ length-append number.before (e ∷ []) in
+    let is = number.number_is in
+    subst (λ z. AreLogged last z last (log ++ n ∷ []) (es ++ e ∷ [])) (sym later) (logged_push last last all more log es n e p (omega arith) (omega arith) same call)
 
 module _ {S : Type 0} (core : S → Core) (last : ℕ) where
   abbrev pub V : Type 0
@@ -130,17 +199,18 @@ module _ {S : Type 0} (core : S → Core) (last : ℕ) where
       record {
         events = [];
         went = went_none v;
-        says = record { of = tt; asked = refl; logged = subst (λ z. AreLogged last (calls_of (events_of v.seen)) z []) (sym none) tt; after = free };
+        says = record { of = tt; asked = refl; logged = subst (λ z. AreLogged last (calls_of (events_of v.seen)) last z []) (sym none) tt; after = free };
       }
 
-  pub called_on : (o q : Snapshot S) (v u w : V) (lane : ℕ) (requests : List Request) (request : Request) (log more : List Numbered) (n : Numbered) → q ≡ o → Called o v u lane requests log →
+  pub called_on : (o q : Snapshot S) (v u w : V) (lane : ℕ) (requests : List Request) (request : Request) (log more : List Numbered) (n : Numbered) → q ≡ o → entries_of v.number v.seen ≡ v.own → Called o v u lane requests log →
       Does u w (CallSays core q w lane request (Ok n)) → IsNumbered last (calls_of (events_of w.seen)) n.number (record { lane = lane; call = request.call; reply = n.reply }) →
       more ≡ log ++ n ∷ [] → Called o v w lane (requests ++ request ∷ []) more
-  called_on o q v u w lane requests request log more n same p c number is =
+  called_on o q v u w lane requests request log more n same settled p c number is =
       let k = subst (λ (z : Snapshot S). HasReplied core z w lane request n.reply c.events) same c.says in
       let e : Entry = record { lane = lane; call = request.call; reply = n.reply } in
-      let before = logged_seen last u.seen w.seen log (calls_of p.events) c.went.seen p.says.logged in
-      let now = logged_push last (calls_of (events_of w.seen)) log (calls_of p.events) n e before refl number in
+      let had : entries_of u.number u.seen ≡ u.own = subst (λ (k : ℕ). entries_of k u.seen ≡ u.own) (sym (ap (λ (z : V). z.number) p.went.pass)) (p.went.settled settled) in
+      let grown = count_grows u.number u.seen w.seen u.own c.events e c.went.seen had (c.went.settled had ∙ c.went.own) k.calls in
+      let now = logged_last last u.seen w.seen log (calls_of p.events) n e c.went.seen grown p.says.logged refl number in
       let calls : calls_of (p.events ++ c.events) ≡ calls_of p.events ++ e ∷ [] = calls_append p.events c.events ∙ ap (λ z. calls_of p.events ++ z) k.calls in
       record {
         events = p.events ++ c.events;
@@ -148,7 +218,7 @@ module _ {S : Type 0} (core : S → Core) (last : ℕ) where
         says = record {
           of = of_on (Lane lane) p.events c.events p.says.of k.of;
           asked = requests_append lane p.events c.events ∙ (λ i. p.says.asked i ++ k.asked i);
-          logged = subst (λ (z : List Numbered × List Entry). AreLogged last (calls_of (events_of w.seen)) z.0 z.1) (λ i. (sym is i, sym calls i)) now;
+          logged = subst (λ (z : List Numbered × List Entry). AreLogged last (calls_of (events_of w.seen)) last z.0 z.1) (λ i. (sym is i, sym calls i)) now;
           after = k.after;
         };
       }
@@ -180,6 +250,10 @@ module _ {S : Type 0} (core : S → Core) (last : ℕ) where
       let again = outside_kept (core_seen core o v) c lane t.coherent (t.kept (Lane lane) acts (own_idle (core_seen core o v) lane p.idle)) (same_shape o (v.seen ++ t.between) v.seen) p in
       let run : CoreRun c (Enter lane ∷ []) (core_seen core o u) = subst (λ (es : List Event). CoreRun c es (core_seen core o u)) t.says t.run in
       subst (λ (d : Core). IsFree d lane) (sym run.1) (free_entered c lane again)
+
+  -- after a turn a pass has seen all that it made
+  pub settled_by : (o : Snapshot S) (v u : V) (lane : ℕ) → Turn core o v u (λ c es. es ≡ Enter lane ∷ []) → entries_of u.number u.seen ≡ u.own
+  settled_by o v u lane t = ap (λ (n : ℕ). entries_of n u.seen) (ap (λ (z : V). z.number) t.pass) ∙ t.settled
 
   abbrev pub HasGone : Core → ℕ → Type 0
   HasGone c lane = ((c.lanes lane).stage ≡ Gone) × (c.calls lane ≡ None) × HoldsNone c (Lane lane)
@@ -216,7 +290,7 @@ module _ {S : Type 0} (core : S → Core) (last : ℕ) where
           are = refl;
           of = (refl, of_on (Lane lane) p.events (Leave lane ∷ []) k.of (refl, tt));
           asked = requests_append lane p.events (Leave lane ∷ []) ∙ (append-nil (requests_in lane p.events) ∙ k.asked);
-          logged = subst (λ z. AreLogged last (calls_of (events_of w.seen)) log z) (sym calls) (logged_seen last u2.seen w.seen log (calls_of p.events) end.seen k.logged);
+          logged = subst (λ z. AreLogged last (calls_of (events_of w.seen)) last log z) (sym calls) (logged_seen last u2.seen w.seen log (calls_of p.events) end.seen k.logged);
           gone = gone.0;
           idle = gone.1;
           none = gone.2;

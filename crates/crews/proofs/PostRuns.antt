@@ -20,6 +20,7 @@ use Rattle.desk_turns.specs.Passing.{ActsFor, IsItsOwn, Went, Does, core_after, 
 use Rattle.desk_turns.proofs.Later.{own_idle}
 use Rattle.desk_turns.proofs.Went.{went_on}
 use Rattle.flusher.specs.Flusher.{LoopSays}
+use Rattle.page_steps.specs.JobTurns.{IsUnbusy}
 use Rattle.page_steps.specs.Words.{StillHolds}
 use Rattle.crews.specs.Acts.{HasActed, ActSays}
 use Rattle.crews.specs.Calls.{WorkSays}
@@ -59,6 +60,10 @@ module _ {S : Type 0} (core : S → Core) (last : ℕ) where
       let within : l < (core o.value).shape.lanes = ⊎_elim (λ t. absurd (cc)) (λ q. q.1) mine in
       subst (λ (c : Core). IsOutside c l) (at_first o v saw)
       (record { within = within; outside = p.outside l within; idle = p.idle l; unmarked = p.unmarked l; none = λ die out e f. let h = p.home die in absurd (cc) })
+
+  -- before the first event no call is with a worker
+  pub unbusy_at : (o : Snapshot S) (v : V) (worker : ℕ) → v.seen ≡ [] → IsUntouched (core o.value) → IsUnbusy (core_seen core o v) worker
+  unbusy_at o v worker saw p = subst (λ (c : Core). IsUnbusy c worker) (at_first o v saw) (λ lane call flies runs. let h = p.idle lane in absurd (cc))
 
   -- ---- what each kind of actor did
 

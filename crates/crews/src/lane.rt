@@ -1,5 +1,6 @@
 //! A lane: its calls one after the other, from its Enter to its Leave.
 ghost use Rattle.std.specs.Prelude.{◌≡◌, ◌≤◌, ◌<◌, ◌+◌, ◌^◌, ◌++◌, ◌∷◌, [], length, IfErr, vec_capacity};
+ghost use Rattle.turn_cell.specs.History.{entries_of};
 ghost use Rattle.turn_cell.specs.Steps.{IsWorn};
 ghost use Rattle.core_state.specs.declared.actor.Actor.TheVariants.{Lane};
 ghost use Rattle.system_state.specs.Cores.{core_of};
@@ -31,9 +32,9 @@ fn note(log: &mut Vec<Numbered>, numbered: Numbered)
     }
 }
 
-/// Makes the calls of a lane that is free, one after the other. The log, in which there is room, has their replies with their numbers; the
-/// gate is told of each. At `Worn` the lane ended the first of its requests.
-fn run_calls<'a, D: Die, J: CallJob, R: Wait, G: Gate, H: Hands<D, J, R>>(
+/// Makes the calls of a lane that is free, one after the other, by a pass that has seen all that it made. The log, in which there is room, has
+/// their replies with their numbers, which rise; the gate is told of each. At `Worn` the lane ended the first of its requests.
+fn run_calls<'a, D: Die, J: CallJob, R: Wait, G: Gate, H: Hands<D, J, R, G>>(
     desk: &mut Seated<'a, System<D, J>, R>,
     gate: &G,
     hands: &H,
@@ -45,6 +46,7 @@ fn run_calls<'a, D: Die, J: CallJob, R: Wait, G: Gate, H: Hands<D, J, R>>(
     requires free { IsFreeSeat desk.old }
     requires acts { ActsFor (core_of D.seen) (opening_at desk.old) (view_at desk.old) (Lane lane) }
     requires lane { IsFree (core_seen (core_of D.seen) (opening_at desk.old) (view_at desk.old)) lane }
+    requires settled { entries_of (view_at desk.old).number (view_at desk.old).seen ≡ (view_at desk.old).own }
     requires small { IsSmall (opening_at desk.old).value }
     requires few { length requests.now < 2 ^ 32 }
     requires empty { log.old.items ≡ [] }
@@ -56,7 +58,7 @@ fn run_calls<'a, D: Die, J: CallJob, R: Wait, G: Gate, H: Hands<D, J, R>>(
 {
     let mut k = 0;
     for request in requests {
-        let numbered = hands.call(desk, lane, request, page)?;
+        let numbered = hands.call(desk, gate, lane, request, page)?;
         note(log, numbered);
         k += 1;
         gate.replied(lane, k);
@@ -64,9 +66,9 @@ fn run_calls<'a, D: Die, J: CallJob, R: Wait, G: Gate, H: Hands<D, J, R>>(
     Ok(())
 }
 
-/// A lane that hasn't entered enters, makes its calls, and leaves. The log, in which there is room, has the replies with their numbers. At
-/// `Worn` the lane ended the first of its requests.
-pub fn run_lane<'a, D: Die, J: CallJob, R: Wait, G: Gate, H: Hands<D, J, R>>(
+/// A lane that hasn't entered enters, makes its calls, and leaves. The log, in which there is room, has the replies with their numbers,
+/// which rise. At `Worn` the lane ended the first of its requests.
+pub fn run_lane<'a, D: Die, J: CallJob, R: Wait, G: Gate, H: Hands<D, J, R, G>>(
     desk: &mut Seated<'a, System<D, J>, R>,
     gate: &G,
     hands: &H,

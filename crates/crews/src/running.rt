@@ -23,7 +23,7 @@ use system_state::CallJob;
 use turn_cell::{Seated, Turn, Worn};
 
 /// What a post's actor does, from its first event to its last: a lane's calls, a worker's work, or a flusher's.
-fn act<'a, D: Die, J: CallJob, R: Wait, G: Gate, H: Hands<D, J, R>>(
+fn act<'a, D: Die, J: CallJob, R: Wait, G: Gate, H: Hands<D, J, R, G>>(
     rt: &R,
     desk: &mut Seated<'a, System<D, J>, R>,
     gate: &G,
@@ -55,14 +55,14 @@ fn act<'a, D: Die, J: CallJob, R: Wait, G: Gate, H: Hands<D, J, R>>(
             &mut post.log,
             &mut post.page,
         ),
-        Actor::Worker(worker) => hands.work(desk, worker, &mut post.page),
+        Actor::Worker(worker) => hands.work(desk, gate, worker, &mut post.page),
         Actor::Flusher(flusher) => flusher_loop(rt, desk, flusher, &mut post.page),
         Actor::Closer => unreachable!(),
     }
 }
 
 /// What a post's actor does, and a last look by which its pass has seen all that it made.
-fn act_and_look<'a, D: Die, J: CallJob, R: Wait, G: Gate, H: Hands<D, J, R>>(
+fn act_and_look<'a, D: Die, J: CallJob, R: Wait, G: Gate, H: Hands<D, J, R, G>>(
     rt: &R,
     desk: &mut Seated<'a, System<D, J>, R>,
     gate: &G,
@@ -93,7 +93,7 @@ fn act_and_look<'a, D: Die, J: CallJob, R: Wait, G: Gate, H: Hands<D, J, R>>(
 }
 
 /// The work of a post, by its pass.
-pub fn run_post<D: Die, J: CallJob, R: Wait, G: Gate, H: Hands<D, J, R>>(
+pub fn run_post<D: Die, J: CallJob, R: Wait, G: Gate, H: Hands<D, J, R, G>>(
     rt: &R,
     turn: &Turn<System<D, J>>,
     gate: &G,

@@ -19,7 +19,7 @@ pub fn run_posts<
     J: CallJob + Send,
     R: Threads + Wait + Sync,
     G: Gate,
-    H: Hands<D, J, R>,
+    H: Hands<D, J, R, G>,
 >(rt: &R, turn: &Turn<System<D, J>>, gate: &G, hands: &H, posts: &mut [Post<D, J>])
     requires { All (λ p. IsReady D.seen turn.now p) posts.old }
     ensures len { length posts.new ≡ length posts.old }

@@ -26,7 +26,7 @@ pub fn work_all<
     J: CallJob + Send,
     R: Threads + Wait + Sync,
     G: Gate,
-    H: Hands<D, J, R>,
+    H: Hands<D, J, R, G>,
 >(
     rt: &R,
     turn: &Turn<System<D, J>>,

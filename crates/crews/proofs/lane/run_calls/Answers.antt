@@ -70,7 +70,7 @@ loop-request-preserved g c =
       e.free,
       (e.turn.0 ∙ i.1.0, e.turn.1 ∙ i.1.1),
       subst (λ z. Called (core_of g.D.Die.seen) o.value.last o (view_at c.args.desk.now) w c.args.lane z c.note.new.log.items) (sym grown)
-          (called_on (core_of g.D.Die.seen) o.value.last o q (view_at c.args.desk.now) (view_at c.loop-request.desk) w c.args.lane (take k c.args.requests.now) request log c.note.new.log.items n i.1.1 i.2 e.did number c.note.ensures.log),
+          (called_on (core_of g.D.Die.seen) o.value.last o q (view_at c.args.desk.now) (view_at c.loop-request.desk) w c.args.lane (take k c.args.requests.now) request log c.note.new.log.items n i.1.1 c.requires.settled i.2 e.did number c.note.ensures.log),
       (ap length c.note.ensures.log ∙ (long ∙ ap (λ z. z + 1) i.3.0), omega (arith, c.note.ensures.room, i.3.1)),
       ap (λ z. z + 1) i.4,
     )

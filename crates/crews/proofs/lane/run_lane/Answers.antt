@@ -15,7 +15,7 @@ use Rattle.page_steps.specs.Making.{IsFree}
 use Rattle.page_steps.specs.Words.{IsSmall}
 use Rattle.crews.specs.Seats.{view_at, opening_at}
 use Rattle.crews.specs.Lanes.{CallsSay}
-use Rattle.crews.proofs.LaneRuns.{enter_free, acts_on, may_enter, may_leave, lane_ran, lane_unentered, lane_cut, lane_unleft}
+use Rattle.crews.proofs.LaneRuns.{enter_free, settled_by, acts_on, may_enter, may_leave, lane_ran, lane_unentered, lane_cut, lane_unleft}
 use Rattle.crews.proofs.lane.run_lane.Goals as goal
 
 pub turn_enter-requires-clause-may : goal.turn_enter-requires-clause-may
@@ -39,6 +39,9 @@ run_calls-requires-clause-lane g c κs within =
 
 pub run_calls-requires-clause-small : goal.run_calls-requires-clause-small
 run_calls-requires-clause-small g c κs within = subst (λ (z : Snapshot (State g.row.D.Denot g.row.J.Denot)). IsSmall z.value) (sym c.turn_enter.ensures.turn.1) c.requires.small
+
+pub run_calls-requires-clause-settled : goal.run_calls-requires-clause-settled
+run_calls-requires-clause-settled g c κs within = settled_by (core_of g.D.Die.seen) (opening_at c.args.desk.now).value.last (opening_at c.args.desk.now) (view_at c.args.desk.now) (view_at c.turn_enter.new.desk) c.args.lane c.in_ok-turn_enter.ensures.did
 
 pub turn_leave-requires-clause-acts : goal.turn_leave-requires-clause-acts
 turn_leave-requires-clause-acts g c =

@@ -3,7 +3,7 @@ use Rattle.core_state.specs.declared.actor.Actor.{Actor}
 use Rattle.system_state.specs.Cores.{core_of}
 use Rattle.desk_turns.specs.Passing.{ActsFor}
 use Rattle.crews.specs.Seats.{view_at, opening_at}
-use Rattle.crews.proofs.PostRuns.{outside_at, flusher_acted}
+use Rattle.crews.proofs.PostRuns.{outside_at, unbusy_at, flusher_acted}
 use Rattle.crews.proofs.running.act.Goals as goal
 
 pub run_lane-requires-clause-acts : goal.run_lane-requires-clause-acts
@@ -16,3 +16,7 @@ run_lane-requires-clause-lane g c κs within =
 pub returns-in-Flusher-clause-did : goal.returns-in-Flusher-clause-did
 returns-in-Flusher-clause-did g c =
     flusher_acted g.D.Die.seen (opening_at c.args.desk.now) (view_at c.args.desk.now) (view_at c.flusher_loop.new.desk) c.args.post.now.actor c.in-Flusher.flusher c.args.post.now.requests.items c.args.post.now.log.items c.flusher_loop.result c.in-Flusher.is c.flusher_loop.ensures.did
+
+pub work-requires-clause-unbusy : goal.work-requires-clause-unbusy
+work-requires-clause-unbusy g c =
+    unbusy_at (core_of g.D.Die.seen) (opening_at c.args.desk.now).value.last (opening_at c.args.desk.now) (view_at c.args.desk.now) c.in-Worker.worker c.requires.saw c.requires.untouched

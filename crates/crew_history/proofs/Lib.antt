@@ -1,0 +1,6 @@
+pub mod Numbers
+pub mod Places
+pub mod Lanes
+pub mod Posts
+pub mod Served
+pub mod Begins
