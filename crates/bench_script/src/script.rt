@@ -156,8 +156,6 @@ fn after_line(state: u64) -> u64
 /// The script that `bench` runs: the function `lines`, a file for each of four lanes, and so many lines that are drawn
 /// from the start. `Err` comes where memory ran out.
 pub fn make_script(alloc: Global, start: u64, calls: u32) -> Result<Text, AllocError>
-    // With the five lines ahead these are as many calls as a script may have.
-    requires { calls ≤ 9995 }
     ensures { IfOk result (λ text. text ≡ script start calls) }
 {
     let mut text = String::from_str(alloc, OPENING)?;
