@@ -1,0 +1,4 @@
+mod Memory
+pub mod Benched
+mod Printed
+pub mod Drawn
