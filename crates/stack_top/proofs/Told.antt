@@ -132,14 +132,18 @@ counts_same host drive reads writes c h d r w = λ i. record { host = h i; drive
 
 -- ---- the plan
 
-pub run_told : (bytes : List ℕ) (drive : PlainDrive) (meta : Meta) (pages : List Page) (script : Script) (name : List ℕ) (setup : Setup) (stores : Bool) (r : DriveRun) (text : List ℕ) (plan : Plan)
+-- a plan is that of a run with these events
+pub record IsRanBy (run : Running) (plan : Plan) (events : List Event) : Type 0 where
+  pub ran : Ran run plan
+  pub same : ran.events ≡ events
+
+pub ran_told : (bytes : List ℕ) (drive : PlainDrive) (meta : Meta) (pages : List Page) (script : Script) (name : List ℕ) (setup : Setup) (stores : Bool) (r : DriveRun) (text : List ℕ)
     → Mounts bytes meta pages (read_image bytes) → drive_of bytes ≡ Ok drive
     → mounts_to bytes ≡ Ok (mounted_of (plain (opening_of meta pages (length script.lanes) setup.place)))
     → stores ≡ is_some (name_of name) → (ran : HasRunDrive meta pages script setup.place setup.dies stores r)
     → text ≡ print (names script) (calls_of ran.events) (record { host = r.places.host; drive = r.places.drive; reads = r.places.reads; writes = r.places.writes })
-    → plan ≡ plan_told name text r.image
-    → Ran (record { opened = opened bytes drive; script = script; out = name_of name; place = setup.place; dies = setup.dies }) plan
-run_told bytes drive meta pages script name setup stores r text plan mounts is told asked ran printed plans =
+    → IsRanBy (record { opened = opened bytes drive; script = script; out = name_of name; place = setup.place; dies = setup.dies }) (plan_told name text r.image) ran.events
+ran_told bytes drive meta pages script name setup stores r text mounts is told asked ran printed =
     let first : Core = opening_of meta pages (length script.lanes) setup.place in
     let run : Running = record { opened = opened bytes drive; script = script; out = name_of name; place = setup.place; dies = setup.dies } in
     let same : IsSameDrive meta (plain first) drive = drive_opened bytes meta pages drive (plain first) mounts is told refl refl in
@@ -152,20 +156,33 @@ run_told bytes drive meta pages script name setup stores r text plan mounts is t
     printed ∙ ap (print (names script) (calls_of ran.events)) (counts_same r.places.host r.places.drive r.places.reads r.places.writes (counts_of ran.events) ran.host ran.drive ran.reads ran.writes) in
     let named : (other : List ℕ) → name_of name ≡ Some other → name ≡ other = λ other there. name_there (bytes_eq name (codes "-")) name other there in
     let Acts : List ℕ → Type 0 = λ t. AreOfRun (unless_refused (plan_told name text r.image).ending (name_of name)) t drive.geometry (plain ran.core) (plan_told name text r.image).acts in
-    let P : Plan → Type 0 = λ p. Ran run p in
-    subst P (sym plans) (record {
-      first = first;
-      events = ran.events;
-      last = ran.core;
-      opens = record { meta = meta; pages = pages; mounted = mounts; core = refl; coherent = ran.coherent; same = same.state };
-      legal = subst Begins same.state ran.legal;
-      serves = ran.serves;
-      few = ran.few;
-      made = subst Made asked ran.run;
-      failed = ran.failed;
-      ending = ending_told (opened bytes drive) script setup.place setup.dies name (name_of name) ran.events ran.core text r.image gathered;
-      acts = subst Acts spelled (acts_told setup.dies script drive.geometry name (name_of name) ran.events ran.core text r.image named gathered);
-    })
+    record {
+      ran = record {
+        first = first;
+        events = ran.events;
+        last = ran.core;
+        opens = record { meta = meta; pages = pages; mounted = mounts; core = refl; coherent = ran.coherent; same = same.state };
+        legal = subst Begins same.state ran.legal;
+        serves = ran.serves;
+        few = ran.few;
+        made = subst Made asked ran.run;
+        failed = ran.failed;
+        ending = ending_told (opened bytes drive) script setup.place setup.dies name (name_of name) ran.events ran.core text r.image gathered;
+        acts = subst Acts spelled (acts_told setup.dies script drive.geometry name (name_of name) ran.events ran.core text r.image named gathered);
+      };
+      same = refl;
+    }
+
+run_told : (bytes : List ℕ) (drive : PlainDrive) (meta : Meta) (pages : List Page) (script : Script) (name : List ℕ) (setup : Setup) (stores : Bool) (r : DriveRun) (text : List ℕ) (plan : Plan)
+    → Mounts bytes meta pages (read_image bytes) → drive_of bytes ≡ Ok drive
+    → mounts_to bytes ≡ Ok (mounted_of (plain (opening_of meta pages (length script.lanes) setup.place)))
+    → stores ≡ is_some (name_of name) → (ran : HasRunDrive meta pages script setup.place setup.dies stores r)
+    → text ≡ print (names script) (calls_of ran.events) (record { host = r.places.host; drive = r.places.drive; reads = r.places.reads; writes = r.places.writes })
+    → plan ≡ plan_told name text r.image
+    → Ran (record { opened = opened bytes drive; script = script; out = name_of name; place = setup.place; dies = setup.dies }) plan
+run_told bytes drive meta pages script name setup stores r text plan mounts is told asked ran printed plans =
+    let P : Plan → Type 0 = λ p. Ran (record { opened = opened bytes drive; script = script; out = name_of name; place = setup.place; dies = setup.dies }) p in
+    subst P (sym plans) (ran_told bytes drive meta pages script name setup stores r text mounts is told asked ran printed).ran
 
 -- ---- what is printed
 

@@ -8,7 +8,7 @@ use std::test::Fail;
 const PLACES: &str = "places host=0 drive=0 reads=0 writes=0\n";
 
 // The status and the print of some words over a room, where the sink takes so many bytes.
-fn asked(
+pub(crate) fn asked(
     alloc: Global,
     line: &str,
     room: &mut MemRoom,

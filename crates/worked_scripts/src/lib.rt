@@ -2,6 +2,8 @@
 #![tactic(auto)]
 
 #[cfg(test)]
+mod bench_tests;
+#[cfg(test)]
 mod drive_tests;
 #[cfg(test)]
 mod image_tests;
