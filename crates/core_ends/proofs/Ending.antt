@@ -1,18 +1,18 @@
 -- The End of a call that stores nothing.
 use Rattle.std.proofs.Common.{◌≡◌, ℕ, Bool, true, false, Some, sym, subst, ⊎_elim}
 use Rattle.std.specs.Prelude.{◌≢◌, ◌⊎◌, if◌then◌else◌}
-use Rattle.plain_files.specs.declared.calls.Reply.{Reply}
-use Rattle.plain_files.specs.declared.calls.Request.{Request}
-use Rattle.core_state.specs.declared.actor.Actor.TheVariants.{Lane}
-use Rattle.core_state.specs.State.{Function, Flight, Core}
-use Rattle.core_state.specs.Reach.{function_word}
-use Rattle.core_state.specs.PlainOf.{plain, outcome_of, used_of, fuel_of}
-use Rattle.core_state.specs.Sides.{learnt}
-use Rattle.core_state.specs.Coherent.{Coherent}
-use Rattle.core_state.specs.EndEvent.{IsAtEnd, learnt_by, has_changed, ended_of, ended_storing, ended_plainly, ended_by_fault, ended, MayEnd}
-use Rattle.core_state.specs.Happens.{HoldsNone}
-use Rattle.core_lemmas.proofs.Calls.{end_owned}
-use Rattle.core_lanes.proofs.Phases.{flight_is}
+use Rattle.core_quick.specs.Reply.{Reply}
+use Rattle.core_quick.specs.Request.{Request}
+use Rattle.core_quick.specs.Actor.TheVariants.{Lane}
+use Rattle.core_quick.specs.State.{Function, Flight, Core}
+use Rattle.core_quick.specs.Reach.{function_word}
+use Rattle.core_quick.specs.PlainOf.{plain, outcome_of, used_of, fuel_of}
+use Rattle.core_quick.specs.Sides.{learnt}
+use Rattle.core_quick.specs.Coherent.{Coherent}
+use Rattle.core_quick.specs.EndEvent.{IsAtEnd, learnt_by, has_changed, ended_of, ended_storing, ended_plainly, ended_by_fault, ended, MayEnd}
+use Rattle.core_quick.specs.Happens.{HoldsNone}
+use Rattle.core_quick.proofs.Calls.{end_owned}
+use Rattle.core_quick.proofs.Phases.{flight_is}
 use Rattle.core_quick.proofs.Named.{each_map}
 use Rattle.core_ends.specs.Stores.{StoresNothing}
 use Rattle.core_ends.proofs.Plainly.{same_names, learnt_names, returned_plain, plainly_keeps}

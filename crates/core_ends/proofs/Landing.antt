@@ -4,15 +4,15 @@ use Rattle.std.specs.Prelude.{◌≢◌}
 use Rattle.dispatcher.specs.declared.side.Side.{Side}
 use Rattle.index_lists.specs.Words.{one_if}
 use Rattle.index_lists.proofs.Puts.{put-other, put-each}
-use Rattle.plain_files.specs.Plain.{State}
-use Rattle.core_state.specs.declared.actor.Actor.{Actor}
-use Rattle.core_state.specs.declared.actor.Actor.TheVariants.{Lane, Worker, Flusher, Closer}
-use Rattle.core_state.specs.State.{Page, Shape, Block, Names, Places, LaneState, Claim, Flight, Errand, ToFill, ToFlush, ToMeta, Out, DieState}
-use Rattle.core_state.specs.InFlight.{claim_of, claims, AreThere, Locked, IsRight, InFlight}
-use Rattle.core_state.specs.Frames.{frames_of, used, in_queue, is_queued, AreQueued}
-use Rattle.core_state.specs.Dies.{owner, MayFlush, MaySync, IsErrand, Dies, Gathered}
-use Rattle.core_lemmas.proofs.Words.{same_some, sum_to-put}
-use Rattle.core_lemmas.proofs.Calls.{without_call, still_there, other_there}
+use Rattle.core_quick.specs.Plain.{State}
+use Rattle.core_quick.specs.Actor.{Actor}
+use Rattle.core_quick.specs.Actor.TheVariants.{Lane, Worker, Flusher, Closer}
+use Rattle.core_quick.specs.State.{Page, Shape, Block, Names, Places, LaneState, Claim, Flight, Errand, ToFill, ToFlush, ToMeta, Out, DieState}
+use Rattle.core_quick.specs.InFlight.{claim_of, claims, AreThere, Locked, IsRight, InFlight}
+use Rattle.core_quick.specs.Frames.{frames_of, used, in_queue, is_queued, AreQueued}
+use Rattle.core_quick.specs.Dies.{owner, MayFlush, MaySync, IsErrand, Dies, Gathered}
+use Rattle.core_quick.proofs.Words.{same_some, sum_to-put}
+use Rattle.core_quick.proofs.Calls.{without_call, still_there, other_there}
 
 pub still_claimed : (calls : ℕ → Option Flight) (lane l : ℕ) (a : Claim) → claims (without_call calls lane) l ≡ Some a → claims calls l ≡ Some a
 still_claimed calls lane l a = put-each (λ (l : ℕ) (o : Option Flight). claim_of o ≡ Some a → claims calls l ≡ Some a) calls lane None (λ e. absurd (cc)) (λ l d e. e) l

@@ -2,3 +2,9 @@ pub mod Landing
 pub mod Returning
 pub mod Plainly
 pub mod Ending
+pub use Rattle.core_pages.proofs.Copy
+pub use Rattle.core_pages.proofs.FillIn
+pub use Rattle.core_pages.proofs.FlushIn
+pub use Rattle.core_pages.proofs.Idle
+pub use Rattle.core_pages.proofs.Take
+pub use Rattle.core_pages.proofs.Plains

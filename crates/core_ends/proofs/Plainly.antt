@@ -5,30 +5,30 @@ use Rattle.std.specs.List.{Contains, filter}
 use mathlib.Core.Path.{fun_ext}
 use Rattle.dispatcher.specs.declared.side.Side.{Side}
 use Rattle.dispatcher.specs.declared.side.Side.TheVariants.{Host, Drive}
-use Rattle.coherence.specs.Paired.{by_side}
+use Rattle.core_quick.specs.Paired.{by_side}
 use Rattle.index_lists.specs.Words.{put, count}
 use Rattle.index_lists.proofs.Puts.{put-other}
-use Rattle.plain_files.specs.declared.calls.Call.{Call}
-use Rattle.plain_files.specs.Plain.{State}
-use Rattle.core_state.specs.declared.actor.Actor.TheVariants.{Lane}
-use Rattle.core_state.specs.Words.{sum_to, listed_to, all_last, Lists, EachBehind}
-use Rattle.core_state.specs.State.{Page, Shape, Block, File, Function, Names, Places, LaneState, Phase, Held, Queued, Running, Reported, Flight, Out, Core}
-use Rattle.core_state.specs.Contents.{InNeitherCache, IsBlank, contents, span_block, has_copy, is_unclean}
-use Rattle.core_state.specs.Reach.{claim_for, file_for, function_word}
-use Rattle.core_state.specs.PlainOf.{plain_file, plain_function, plain_of, plain}
-use Rattle.core_state.specs.Sides.{learnt, with_learnt}
-use Rattle.core_state.specs.Placed.{AreNamed, HavePlaces, Tails}
-use Rattle.core_state.specs.InFlight.{InFlight}
-use Rattle.core_state.specs.Frames.{weight, is_side, frames_of, used, HasFrameFor, in_queue}
-use Rattle.core_state.specs.Dies.{owner, Gathered}
-use Rattle.core_state.specs.Coherent.{Coherent}
-use Rattle.core_state.specs.LaneEvents.{replied}
-use Rattle.core_state.specs.EndEvent.{lent_at, back_from, back_order, returned, landed}
-use Rattle.core_lemmas.proofs.Words.{lists_same}
-use Rattle.core_lemmas.proofs.Blocks.{kept_rest, flush_rest, errand_blocks, fill_stays}
-use Rattle.core_lemmas.proofs.Views.{function_there}
+use Rattle.core_quick.specs.Call.{Call}
+use Rattle.core_quick.specs.Plain.{State}
+use Rattle.core_quick.specs.Actor.TheVariants.{Lane}
+use Rattle.core_quick.specs.Words.{sum_to, listed_to, all_last, Lists, EachBehind}
+use Rattle.core_quick.specs.State.{Page, Shape, Block, File, Function, Names, Places, LaneState, Phase, Held, Queued, Running, Reported, Flight, Out, Core}
+use Rattle.core_quick.specs.Contents.{InNeitherCache, IsBlank, contents, span_block, has_copy, is_unclean}
+use Rattle.core_quick.specs.Reach.{claim_for, file_for, function_word}
+use Rattle.core_quick.specs.PlainOf.{plain_file, plain_function, plain_of, plain}
+use Rattle.core_quick.specs.Sides.{learnt, with_learnt}
+use Rattle.core_quick.specs.Placed.{AreNamed, HavePlaces, Tails}
+use Rattle.core_quick.specs.InFlight.{InFlight}
+use Rattle.core_quick.specs.Frames.{weight, is_side, frames_of, used, HasFrameFor, in_queue}
+use Rattle.core_quick.specs.Dies.{owner, Gathered}
+use Rattle.core_quick.specs.Coherent.{Coherent}
+use Rattle.core_quick.specs.LaneEvents.{replied}
+use Rattle.core_quick.specs.EndEvent.{lent_at, back_from, back_order, returned, landed}
+use Rattle.core_quick.proofs.Words.{lists_same}
+use Rattle.core_quick.proofs.Blocks.{kept_rest, flush_rest, errand_blocks, fill_stays}
+use Rattle.core_quick.proofs.Views.{function_there}
 use Rattle.core_pages.proofs.Gathering.{gains_frame}
-use Rattle.core_lemmas.proofs.Calls.{without_call, still_there, other_there}
+use Rattle.core_quick.proofs.Calls.{without_call, still_there, other_there}
 use Rattle.core_ends.proofs.Landing.{used_gone, locked_gone, in_flight_gone, queued_gone, dies_gone, gathered_gone}
 use Rattle.core_ends.proofs.Returning.{Went, Back, Stayed, returned_block, went, went_rest, went_copies, went_hand, went_lent, went_other, went_unlent, went_gains, back_has, back_listed, back_unlisted, back_weight, all_last_order, length-all_last, count-filter}
 

@@ -5,19 +5,19 @@ use Rattle.std.specs.List.{filter}
 use Rattle.std.proofs.lemmas.Bool.Decides.{nat_tests}
 use Rattle.dispatcher.specs.declared.side.Side.{Side}
 use Rattle.dispatcher.specs.declared.side.Side.TheVariants.{Host, Drive}
-use Rattle.coherence.specs.Paired.{by_side}
+use Rattle.core_quick.specs.Paired.{by_side}
 use Rattle.index_lists.specs.Words.{count, one_if}
 use Rattle.index_lists.proofs.Counts.{same_or_not, count-nil, count-here, count-there, count-append}
-use Rattle.core_state.specs.Words.{sum_to, listed_to, without_all, all_last, Lists}
-use Rattle.core_state.specs.State.{Page, Loan, Block, Places, Frame, NoFrame, Reserved, OnLoan, Flight, Core}
-use Rattle.core_state.specs.Contents.{copy_at, InNeitherCache, IsAway, content, span_block, has_copy}
-use Rattle.core_state.specs.Sound.{HasCopies, IsInHand}
-use Rattle.core_state.specs.Frames.{weight}
-use Rattle.core_state.specs.Coherent.{Coherent}
-use Rattle.core_state.specs.EndEvent.{is_on_loan, lent_at, back_from}
-use Rattle.core_lemmas.proofs.Words.{nothing, same_some}
-use Rattle.core_lemmas.proofs.Spans.{listed-none, listed-one}
-use Rattle.core_lemmas.proofs.Blocks.{KeepsRest}
+use Rattle.core_quick.specs.Words.{sum_to, listed_to, without_all, all_last, Lists}
+use Rattle.core_quick.specs.State.{Page, Loan, Block, Places, Frame, NoFrame, Reserved, OnLoan, Flight, Core}
+use Rattle.core_quick.specs.Contents.{copy_at, InNeitherCache, IsAway, content, span_block, has_copy}
+use Rattle.core_quick.specs.Sound.{HasCopies, IsInHand}
+use Rattle.core_quick.specs.Frames.{weight}
+use Rattle.core_quick.specs.Coherent.{Coherent}
+use Rattle.core_quick.specs.EndEvent.{is_on_loan, lent_at, back_from}
+use Rattle.core_quick.proofs.Words.{nothing, same_some}
+use Rattle.core_quick.proofs.Spans.{listed-none, listed-one}
+use Rattle.core_quick.proofs.Blocks.{KeepsRest}
 use Rattle.core_pages.proofs.Gathering.{GainsCopies}
 use Rattle.core_quick.proofs.Released.{length-without_all, count-without_all_in, count-without_all_out}
 

@@ -1,12 +1,12 @@
 //! Laws: each is the contract of an empty function.
 ghost use Rattle.std.specs.Prelude.{◌≡◌, ℕ};
-ghost use Rattle.plain_files.specs.declared.calls.Reply.{Reply};
-ghost use Rattle.plain_files.specs.declared.calls.Request.{Request};
-ghost use Rattle.core_state.specs.declared.event.Event.TheVariants.{End};
-ghost use Rattle.core_state.specs.PlainOf.{plain};
-ghost use Rattle.core_state.specs.State.{Core};
-ghost use Rattle.core_state.specs.Coherent.{Coherent};
-ghost use Rattle.core_state.specs.Happens.{Happens};
+ghost use Rattle.core_quick.specs.Reply.{Reply};
+ghost use Rattle.core_quick.specs.Request.{Request};
+ghost use Rattle.core_quick.specs.Event.TheVariants.{End};
+ghost use Rattle.core_quick.specs.PlainOf.{plain};
+ghost use Rattle.core_quick.specs.State.{Core};
+ghost use Rattle.core_quick.specs.Coherent.{Coherent};
+ghost use Rattle.core_quick.specs.Happens.{Happens};
 ghost use Rattle.core_ends.specs.Stores.{StoresNothing};
 
 /// A call that ends and stores nothing keeps a core coherent: one with a mark, one that only reads, and one that did not succeed.

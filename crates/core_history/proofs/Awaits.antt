@@ -8,22 +8,22 @@ use Rattle.plain_files.specs.declared.calls.Request.{Request}
 use Rattle.plain_files.specs.declared.calls.Reply.{Reply}
 use Rattle.plain_files.specs.History.{Entry, calls_in}
 use Rattle.plain_files.specs.Plain.{State, answer}
-use Rattle.core_state.specs.declared.actor.Actor.{Actor}
-use Rattle.core_state.specs.declared.actor.Actor.TheVariants.{Lane, Worker, Flusher, Closer}
-use Rattle.core_state.specs.declared.event.Event.{Event}
-use Rattle.core_state.specs.declared.event.Event.TheVariants.{Enter, Leave, Quick, Skip, Begin, Copy, Take, DieOut, FillIn, Submit, Fetch, Report, End, Evict, Demote, FlushOut, FlushIn, MetaIn}
-use Rattle.core_state.specs.declared.event.Purpose.TheVariants.{Fill, Meta}
-use Rattle.core_state.specs.State.{Claim, NoFrame, OnLoan, LaneState, Mode, Shared, Exclusive, Inside, Gone, File, Flight, Errand, ToFill, ToFlush, ToMeta, Out, Core}
-use Rattle.core_state.specs.Contents.{span_block}
-use Rattle.core_state.specs.Reach.{by_mode, file_for}
-use Rattle.core_state.specs.PlainOf.{plain}
-use Rattle.core_state.specs.Resizing.{follows}
-use Rattle.core_state.specs.PageEvents.{no_flight, flight_at, with_gathered}
-use Rattle.core_state.specs.DieEvents.{marked_if, marked_by, counted, counted_by, filled_of, filled_on, filled_by, flushed_on, flushed_by, stored_on, stored_by}
-use Rattle.core_state.specs.LaneEvents.{HasAwaited, replied}
-use Rattle.core_state.specs.EndEvent.{has_changed, ended_of, ended_storing, ended_plainly, ended_by_fault}
-use Rattle.core_state.specs.Happens.{Happens, CoreRun, after}
-use Rattle.core_state.specs.History.{entry_of, and_then, calls_of, request_of, AreAwaited}
+use Rattle.core_lanes.specs.Actor.{Actor}
+use Rattle.core_lanes.specs.Actor.TheVariants.{Lane, Worker, Flusher, Closer}
+use Rattle.core_lanes.specs.Event.{Event}
+use Rattle.core_lanes.specs.Event.TheVariants.{Enter, Leave, Quick, Skip, Begin, Copy, Take, DieOut, FillIn, Submit, Fetch, Report, End, Evict, Demote, FlushOut, FlushIn, MetaIn}
+use Rattle.core_lanes.specs.Purpose.TheVariants.{Fill, Meta}
+use Rattle.core_lanes.specs.State.{Claim, NoFrame, OnLoan, LaneState, Mode, Shared, Exclusive, Inside, Gone, File, Flight, Errand, ToFill, ToFlush, ToMeta, Out, Core}
+use Rattle.core_lanes.specs.Contents.{span_block}
+use Rattle.core_lanes.specs.Reach.{by_mode, file_for}
+use Rattle.core_lanes.specs.PlainOf.{plain}
+use Rattle.core_lanes.specs.Resizing.{follows}
+use Rattle.core_lanes.specs.PageEvents.{no_flight, flight_at, with_gathered}
+use Rattle.core_lanes.specs.DieEvents.{marked_if, marked_by, counted, counted_by, filled_of, filled_on, filled_by, flushed_on, flushed_by, stored_on, stored_by}
+use Rattle.core_lanes.specs.LaneEvents.{HasAwaited, replied}
+use Rattle.core_lanes.specs.EndEvent.{has_changed, ended_of, ended_storing, ended_plainly, ended_by_fault}
+use Rattle.core_lanes.specs.Happens.{Happens, CoreRun, after}
+use Rattle.core_lanes.specs.History.{entry_of, and_then, calls_of, request_of, AreAwaited}
 use Rattle.core_lanes.proofs.Phases.{flight_is}
 use Rattle.core_history.proofs.Faults.{ended_lanes}
 

@@ -8,21 +8,21 @@ use Rattle.plain_files.specs.declared.calls.Call.{Call}
 use Rattle.plain_files.specs.declared.calls.Reply.{Reply}
 use Rattle.plain_files.specs.History.{Entry, is_fault}
 use Rattle.plain_files.specs.Plain.{State, answer}
-use Rattle.core_state.specs.declared.actor.Actor.{Actor}
-use Rattle.core_state.specs.declared.actor.Actor.TheVariants.{Lane, Worker, Flusher, Closer}
-use Rattle.core_state.specs.declared.event.Event.{Event}
-use Rattle.core_state.specs.declared.event.Event.TheVariants.{Enter, Leave, Quick, Skip, Begin, Copy, Take, DieOut, FillIn, Submit, Fetch, Report, End, Evict, Demote, FlushOut, FlushIn, MetaIn}
-use Rattle.core_state.specs.declared.event.Purpose.TheVariants.{Fill, Meta}
-use Rattle.core_state.specs.State.{LaneState, Inside, Gone, File, Flight, Errand, ToFill, ToFlush, ToMeta, Out, Core}
-use Rattle.core_state.specs.Reach.{file_for}
-use Rattle.core_state.specs.PlainOf.{plain}
-use Rattle.core_state.specs.Resizing.{follows}
-use Rattle.core_state.specs.PageEvents.{flight_at}
-use Rattle.core_state.specs.DieEvents.{marked_if, marked_by, filled_on, filled_by, flushed_on, flushed_by, stored_on, stored_by}
-use Rattle.core_state.specs.LaneEvents.{replied}
-use Rattle.core_state.specs.EndEvent.{has_changed, ended_of, ended_storing, ended_plainly, ended_by_fault, MayEnd}
-use Rattle.core_state.specs.Happens.{Happens, CoreRun, after}
-use Rattle.core_state.specs.History.{entry_of, and_then, calls_of, is_failure, failures, faults}
+use Rattle.core_lanes.specs.Actor.{Actor}
+use Rattle.core_lanes.specs.Actor.TheVariants.{Lane, Worker, Flusher, Closer}
+use Rattle.core_lanes.specs.Event.{Event}
+use Rattle.core_lanes.specs.Event.TheVariants.{Enter, Leave, Quick, Skip, Begin, Copy, Take, DieOut, FillIn, Submit, Fetch, Report, End, Evict, Demote, FlushOut, FlushIn, MetaIn}
+use Rattle.core_lanes.specs.Purpose.TheVariants.{Fill, Meta}
+use Rattle.core_lanes.specs.State.{LaneState, Inside, Gone, File, Flight, Errand, ToFill, ToFlush, ToMeta, Out, Core}
+use Rattle.core_lanes.specs.Reach.{file_for}
+use Rattle.core_lanes.specs.PlainOf.{plain}
+use Rattle.core_lanes.specs.Resizing.{follows}
+use Rattle.core_lanes.specs.PageEvents.{flight_at}
+use Rattle.core_lanes.specs.DieEvents.{marked_if, marked_by, filled_on, filled_by, flushed_on, flushed_by, stored_on, stored_by}
+use Rattle.core_lanes.specs.LaneEvents.{replied}
+use Rattle.core_lanes.specs.EndEvent.{has_changed, ended_of, ended_storing, ended_plainly, ended_by_fault, MayEnd}
+use Rattle.core_lanes.specs.Happens.{Happens, CoreRun, after}
+use Rattle.core_lanes.specs.History.{entry_of, and_then, calls_of, is_failure, failures, faults}
 use Rattle.core_history.proofs.Replies.{answer_other}
 
 -- the list has each lane with a mark

@@ -4,16 +4,16 @@ use Rattle.std.specs.Prelude.{◌≢◌, not}
 use Rattle.index_lists.specs.Words.{put}
 use Rattle.index_lists.proofs.Counts.{same_or_not}
 use Rattle.index_lists.proofs.Puts.{put-same, put-other}
-use Rattle.core_state.specs.declared.actor.Actor.{Actor}
-use Rattle.core_state.specs.declared.actor.Actor.TheVariants.{Lane, Worker, Flusher, Closer}
-use Rattle.core_state.specs.declared.event.Event.{Event}
-use Rattle.core_state.specs.declared.event.Event.TheVariants.{Enter, Leave, Quick, Skip, Begin, Copy, Take, DieOut, FillIn, Submit, Fetch, Report, End, Evict, Demote, FlushOut, FlushIn, MetaIn}
-use Rattle.core_state.specs.declared.event.Purpose.TheVariants.{Fill, Meta}
-use Rattle.core_state.specs.State.{LaneState, Stage, Outside, Inside, Gone, Errand, ToFill, ToFlush, ToMeta, Out, Core}
-use Rattle.core_state.specs.PageEvents.{flight_at}
-use Rattle.core_state.specs.DieEvents.{marked_if, marked_by, filled_on, filled_by, flushed_on, flushed_by, stored_on, stored_by}
-use Rattle.core_state.specs.LaneEvents.{replied}
-use Rattle.core_state.specs.Happens.{Happens, after}
+use Rattle.core_lanes.specs.Actor.{Actor}
+use Rattle.core_lanes.specs.Actor.TheVariants.{Lane, Worker, Flusher, Closer}
+use Rattle.core_lanes.specs.Event.{Event}
+use Rattle.core_lanes.specs.Event.TheVariants.{Enter, Leave, Quick, Skip, Begin, Copy, Take, DieOut, FillIn, Submit, Fetch, Report, End, Evict, Demote, FlushOut, FlushIn, MetaIn}
+use Rattle.core_lanes.specs.Purpose.TheVariants.{Fill, Meta}
+use Rattle.core_lanes.specs.State.{LaneState, Stage, Outside, Inside, Gone, Errand, ToFill, ToFlush, ToMeta, Out, Core}
+use Rattle.core_lanes.specs.PageEvents.{flight_at}
+use Rattle.core_lanes.specs.DieEvents.{marked_if, marked_by, filled_on, filled_by, flushed_on, flushed_by, stored_on, stored_by}
+use Rattle.core_lanes.specs.LaneEvents.{replied}
+use Rattle.core_lanes.specs.Happens.{Happens, after}
 use Rattle.core_history.proofs.Faults.{ended_lanes}
 
 abbrev IsGone : (ℕ → LaneState) → ℕ → Type 0

@@ -7,21 +7,21 @@ use Rattle.index_lists.proofs.Puts.{put-each}
 use Rattle.plain_files.specs.declared.calls.Reply.{Reply}
 use Rattle.plain_files.specs.History.{Entry}
 use Rattle.plain_files.specs.Plain.{State, answer}
-use Rattle.core_state.specs.declared.event.Event.{Event}
-use Rattle.core_state.specs.declared.event.Event.TheVariants.{Enter, Leave, Quick, Skip, Begin, Copy, Take, DieOut, FillIn, Submit, Fetch, Report, End, Evict, Demote, FlushOut, FlushIn, MetaIn}
-use Rattle.core_state.specs.declared.event.Purpose.TheVariants.{Fill, Meta}
-use Rattle.core_state.specs.Words.{changed_at, first_to, is_at, is_in}
-use Rattle.core_state.specs.State.{Page, Loan, Block, File, Mode, Shared, Exclusive, Flight, Errand, ToFill, ToFlush, ToMeta, Out, Core}
-use Rattle.core_state.specs.Contents.{with_copy, span_block}
-use Rattle.core_state.specs.Reach.{by_mode, file_for}
-use Rattle.core_state.specs.PlainOf.{plain, bytes_by_id, page_at}
-use Rattle.core_state.specs.Resizing.{renewed, renewed_in, follows}
-use Rattle.core_state.specs.PageEvents.{flight_at, read_block, lent_block}
+use Rattle.core_lanes.specs.Event.{Event}
+use Rattle.core_lanes.specs.Event.TheVariants.{Enter, Leave, Quick, Skip, Begin, Copy, Take, DieOut, FillIn, Submit, Fetch, Report, End, Evict, Demote, FlushOut, FlushIn, MetaIn}
+use Rattle.core_lanes.specs.Purpose.TheVariants.{Fill, Meta}
+use Rattle.core_lanes.specs.Words.{changed_at, first_to, is_at, is_in}
+use Rattle.core_lanes.specs.State.{Page, Loan, Block, File, Mode, Shared, Exclusive, Flight, Errand, ToFill, ToFlush, ToMeta, Out, Core}
+use Rattle.core_lanes.specs.Contents.{with_copy, span_block}
+use Rattle.core_lanes.specs.Reach.{by_mode, file_for}
+use Rattle.core_lanes.specs.PlainOf.{plain, bytes_by_id, page_at}
+use Rattle.core_lanes.specs.Resizing.{renewed, renewed_in, follows}
+use Rattle.core_lanes.specs.PageEvents.{flight_at, read_block, lent_block}
 use Rattle.coherence.specs.Paired.{by_side}
-use Rattle.core_state.specs.DieEvents.{flushed_block, written_page, filled_block, filled_of, filled_on, filled_by, flushed_on, flushed_by, stored_on, stored_by}
-use Rattle.core_state.specs.EndEvent.{with_span, installed_at, back_from, has_changed, ended_of, ended_storing, ended_plainly, ended_by_fault}
-use Rattle.core_state.specs.Happens.{CoreRun, after}
-use Rattle.core_state.specs.History.{entry_of, and_then, calls_of}
+use Rattle.core_lanes.specs.DieEvents.{flushed_block, written_page, filled_block, filled_of, filled_on, filled_by, flushed_on, flushed_by, stored_on, stored_by}
+use Rattle.core_lanes.specs.EndEvent.{with_span, installed_at, back_from, has_changed, ended_of, ended_storing, ended_plainly, ended_by_fault}
+use Rattle.core_lanes.specs.Happens.{CoreRun, after}
+use Rattle.core_lanes.specs.History.{entry_of, and_then, calls_of}
 
 -- ---- numbers
 

@@ -1,9 +1,9 @@
 //! Laws: each is the contract of an empty function.
 ghost use Rattle.std.specs.Prelude.{◌≡◌, ℕ, ◌+◌, ◌*◌, ◌≤◌, false, List, length, None};
-ghost use Rattle.core_state.specs.declared.event.Event.{Event};
-ghost use Rattle.core_state.specs.State.{Gone, Core};
-ghost use Rattle.core_state.specs.Happens.{Happens, CoreRun};
-ghost use Rattle.core_state.specs.History.{calls_of, AreAwaited, failures, faults};
+ghost use Rattle.core_lanes.specs.Event.{Event};
+ghost use Rattle.core_lanes.specs.State.{Gone, Core};
+ghost use Rattle.core_lanes.specs.Happens.{Happens, CoreRun};
+ghost use Rattle.core_lanes.specs.History.{calls_of, AreAwaited, failures, faults};
 
 /// Each event draws at most one number, and that for the call that it ends: the k-th call of a run has the number k plus the last one
 /// drawn before.

@@ -2,11 +2,11 @@
 use Rattle.std.proofs.Common.{◌≡◌, ℕ, Bool, true, false, Option, Some, None, refl, ap, ◌∙◌, arith}
 use Rattle.std.specs.Prelude.{◌≢◌, ◌==◌, ◌||◌}
 use Rattle.std.proofs.lemmas.Bool.Decides.{nat_tests}
-use Rattle.core_state.specs.declared.actor.Actor.{Actor}
-use Rattle.core_state.specs.declared.actor.Actor.TheVariants.{Lane, Worker, Flusher, Closer}
-use Rattle.core_state.specs.State.{Phase, Out}
-use Rattle.core_state.specs.Dies.{owner}
-use Rattle.core_state.specs.Hold.{is_actor, is_some_actor, is_owner, sees}
+use Rattle.core_quick.specs.Actor.{Actor}
+use Rattle.core_quick.specs.Actor.TheVariants.{Lane, Worker, Flusher, Closer}
+use Rattle.core_quick.specs.State.{Phase, Out}
+use Rattle.core_quick.specs.Dies.{owner}
+use Rattle.core_quick.specs.Hold.{is_actor, is_some_actor, is_owner, sees}
 
 differs : (x y : ℕ) → x ≢ y → (x == y) ≡ false
 differs x y n = grind (arith, nat_tests)

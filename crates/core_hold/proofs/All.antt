@@ -1,6 +1,6 @@
 -- Every kind of event.
-use Rattle.core_state.specs.declared.event.Event.{Event}
-use Rattle.core_state.specs.declared.event.Event.TheVariants.{Enter, Leave, Quick, Skip, Begin, Copy, Take, DieOut, FillIn, Submit, Fetch, Report, End, Evict, Demote, FlushOut, FlushIn, MetaIn}
+use Rattle.core_quick.specs.Event.{Event}
+use Rattle.core_quick.specs.Event.TheVariants.{Enter, Leave, Quick, Skip, Begin, Copy, Take, DieOut, FillIn, Submit, Fetch, Report, End, Evict, Demote, FlushOut, FlushIn, MetaIn}
 use Rattle.core_hold.specs.Keeps.{HoldsAfter}
 use Rattle.core_hold.proofs.Lanes.{enter_holds, leave_holds, skip_holds, begin_holds}
 use Rattle.core_hold.proofs.Phases.{submit_holds, fetch_holds, report_hands_back}

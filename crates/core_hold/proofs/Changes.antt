@@ -1,19 +1,19 @@
 -- A call that ends and has changed something stores new bytes of its file.
 use Rattle.std.proofs.Common.{◌≡◌, ℕ, Bool, true, false, List, [], length, Option, Some, None, refl, sym, ap, ◌∙◌, subst}
 use Rattle.std.specs.Prelude.{◌&&◌, option_map, unwrap_or}
-use Rattle.plain_files.specs.declared.calls.Call.{Call}
-use Rattle.plain_files.specs.declared.calls.Call.TheVariants.{Create, OpenFile, Stat, Remove, Read, Write, Append, Trunc, Seal, Load, Unload, Readl, Writel, Sync}
-use Rattle.plain_files.specs.declared.calls.PlainFile.{PlainFile}
-use Rattle.plain_files.specs.declared.calls.Reply.{Reply}
-use Rattle.plain_files.specs.Plain.{bytes_in, answer}
-use Rattle.core_state.specs.State.{File, Mode, Shared, Exclusive, Reach, Claim, Flight, Core}
-use Rattle.core_state.specs.Contents.{contents}
-use Rattle.core_state.specs.Reach.{is_exclusive, file_word, file_by, file_for, len_or_none, reach_of}
-use Rattle.core_state.specs.PlainOf.{plain_file, file_page, plain, has_stored}
-use Rattle.core_state.specs.InFlight.{claim_of, IsRight}
-use Rattle.core_state.specs.Coherent.{Coherent}
-use Rattle.core_state.specs.EndEvent.{has_changed}
-use Rattle.core_lemmas.proofs.Views.{file_seen}
+use Rattle.core_quick.specs.Call.{Call}
+use Rattle.core_quick.specs.Call.TheVariants.{Create, OpenFile, Stat, Remove, Read, Write, Append, Trunc, Seal, Load, Unload, Readl, Writel, Sync}
+use Rattle.core_quick.specs.PlainFile.{PlainFile}
+use Rattle.core_quick.specs.Reply.{Reply}
+use Rattle.core_quick.specs.Plain.{bytes_in, answer}
+use Rattle.core_quick.specs.State.{File, Mode, Shared, Exclusive, Reach, Claim, Flight, Core}
+use Rattle.core_quick.specs.Contents.{contents}
+use Rattle.core_quick.specs.Reach.{is_exclusive, file_word, file_by, file_for, len_or_none, reach_of}
+use Rattle.core_quick.specs.PlainOf.{plain_file, file_page, plain, has_stored}
+use Rattle.core_quick.specs.InFlight.{claim_of, IsRight}
+use Rattle.core_quick.specs.Coherent.{Coherent}
+use Rattle.core_quick.specs.EndEvent.{has_changed}
+use Rattle.core_quick.proofs.Views.{file_seen}
 use Rattle.core_quick.proofs.Seen.{length_bytes}
 use Rattle.core_quick.proofs.Flying.{flies_on}
 use Rattle.core_hold.proofs.Stores.{IsStored, answer_stored}

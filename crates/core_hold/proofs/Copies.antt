@@ -4,18 +4,18 @@ use Rattle.std.specs.Prelude.{◌≢◌, if◌then◌else◌, is_some}
 use Rattle.page_base.specs.Bytes.{zero_page}
 use Rattle.dispatcher.specs.declared.side.Side.{Side}
 use Rattle.index_lists.specs.Words.{put}
-use Rattle.core_state.specs.declared.actor.Actor.{Actor}
-use Rattle.core_state.specs.declared.event.Event.TheVariants.{Copy, Take, Evict, Demote}
-use Rattle.core_state.specs.Words.{changed_at}
-use Rattle.core_state.specs.State.{Page, Block, Names, Places, Claim, NoFrame, OnLoan, Phase, Flight, Core}
-use Rattle.core_state.specs.Contents.{with_copy, contents, flashes, page_of, span_block, has_copy}
-use Rattle.core_state.specs.Reach.{function_for}
-use Rattle.core_state.specs.Dies.{owner}
-use Rattle.core_state.specs.PageEvents.{of_block, with_gathered, read_block, is_only_there, copied_from, copied_of, lent_block, taken_from, taken_of, is_spare, is_demotable, order_at}
-use Rattle.core_state.specs.Hold.{is_owner, sees, dies_held, is_held, code_of, cut_to, len_seen, readable_seen, len_for, SeenCall, call_seen, call_owned, hold}
-use Rattle.core_lemmas.proofs.Blocks.{contents_put}
-use Rattle.core_lemmas.proofs.Finds.{found_passes}
-use Rattle.core_lanes.proofs.Phases.{flight_is}
+use Rattle.core_quick.specs.Actor.{Actor}
+use Rattle.core_quick.specs.Event.TheVariants.{Copy, Take, Evict, Demote}
+use Rattle.core_quick.specs.Words.{changed_at}
+use Rattle.core_quick.specs.State.{Page, Block, Names, Places, Claim, NoFrame, OnLoan, Phase, Flight, Core}
+use Rattle.core_quick.specs.Contents.{with_copy, contents, flashes, page_of, span_block, has_copy}
+use Rattle.core_quick.specs.Reach.{function_for}
+use Rattle.core_quick.specs.Dies.{owner}
+use Rattle.core_quick.specs.PageEvents.{of_block, with_gathered, read_block, is_only_there, copied_from, copied_of, lent_block, taken_from, taken_of, is_spare, is_demotable, order_at}
+use Rattle.core_quick.specs.Hold.{is_owner, sees, dies_held, is_held, code_of, cut_to, len_seen, readable_seen, len_for, SeenCall, call_seen, call_owned, hold}
+use Rattle.core_quick.proofs.Blocks.{contents_put}
+use Rattle.core_quick.proofs.Finds.{found_passes}
+use Rattle.core_quick.proofs.Phases.{flight_is}
 use Rattle.core_pages.proofs.Idle.{and_parts, evicted_content, moved_content, listed_at, none_is}
 use Rattle.core_pages.proofs.Copy.{read_content}
 use Rattle.core_pages.proofs.Plains.{taken_content}

@@ -8,11 +8,11 @@ use Rattle.page_base.specs.Drive.{meta_pages, total_pages, die_share}
 use Rattle.index_lists.specs.Words.{put}
 use Rattle.index_lists.proofs.Counts.{same_or_not}
 use Rattle.index_lists.proofs.Puts.{put-same, put-other}
-use Rattle.core_state.specs.declared.actor.Actor.{Actor}
-use Rattle.core_state.specs.Words.{from_fn}
-use Rattle.core_state.specs.State.{Page, Shape, Block, Out, DieState}
-use Rattle.core_state.specs.Contents.{die_of, die_of_page, image_page, die_pages, flashes}
-use Rattle.core_state.specs.Hold.{HeldDie, die_held, dies_held}
+use Rattle.core_quick.specs.Actor.{Actor}
+use Rattle.core_quick.specs.Words.{from_fn}
+use Rattle.core_quick.specs.State.{Page, Shape, Block, Out, DieState}
+use Rattle.core_quick.specs.Contents.{die_of, die_of_page, image_page, die_pages, flashes}
+use Rattle.core_quick.specs.Hold.{HeldDie, die_held, dies_held}
 use Rattle.core_hold.proofs.Actors.{held_by}
 
 -- ---- pages of other dies

@@ -5,26 +5,26 @@ use mathlib.Core.Path.{fun_ext}
 use Rattle.page_base.specs.Bytes.{zero_page}
 use Rattle.dispatcher.specs.declared.side.Side.{Side}
 use Rattle.dispatcher.specs.declared.side.Side.TheVariants.{Host, Drive}
-use Rattle.coherence.specs.Paired.{by_side}
-use Rattle.coherence.specs.Changes.{page_or}
+use Rattle.core_quick.specs.Paired.{by_side}
+use Rattle.core_quick.specs.Changes.{page_or}
 use Rattle.index_lists.specs.Words.{put}
 use Rattle.index_lists.proofs.Puts.{put-same}
-use Rattle.plain_files.specs.declared.calls.Call.{Call}
-use Rattle.plain_files.specs.Plain.{State}
-use Rattle.core_state.specs.declared.actor.Actor.{Actor}
-use Rattle.core_state.specs.declared.actor.Actor.TheVariants.{Lane}
-use Rattle.core_state.specs.State.{Page, Loan, Block, File, Function, Names, Places, Claim, Flight, Core}
-use Rattle.core_state.specs.Contents.{lent_page, content, contents, flashes, InNeitherCache}
-use Rattle.core_state.specs.Reach.{file_for, len_or_none, function_word, function_by, function_for}
-use Rattle.core_state.specs.PlainOf.{plain, outcome_of, used_of, fuel_of}
-use Rattle.core_state.specs.Sides.{learnt}
-use Rattle.core_state.specs.Dies.{owner}
-use Rattle.core_state.specs.Coherent.{Coherent}
-use Rattle.core_state.specs.LaneEvents.{replied}
-use Rattle.core_state.specs.EndEvent.{back_from, learnt_by, ended_plainly, ended_by_fault}
-use Rattle.core_state.specs.Hold.{code_of, len_seen, readable_seen, dies_held, call_seen, hold}
-use Rattle.core_lemmas.proofs.Calls.{still_there}
-use Rattle.core_lemmas.proofs.Views.{find_map}
+use Rattle.core_quick.specs.Call.{Call}
+use Rattle.core_quick.specs.Plain.{State}
+use Rattle.core_quick.specs.Actor.{Actor}
+use Rattle.core_quick.specs.Actor.TheVariants.{Lane}
+use Rattle.core_quick.specs.State.{Page, Loan, Block, File, Function, Names, Places, Claim, Flight, Core}
+use Rattle.core_quick.specs.Contents.{lent_page, content, contents, flashes, InNeitherCache}
+use Rattle.core_quick.specs.Reach.{file_for, len_or_none, function_word, function_by, function_for}
+use Rattle.core_quick.specs.PlainOf.{plain, outcome_of, used_of, fuel_of}
+use Rattle.core_quick.specs.Sides.{learnt}
+use Rattle.core_quick.specs.Dies.{owner}
+use Rattle.core_quick.specs.Coherent.{Coherent}
+use Rattle.core_quick.specs.LaneEvents.{replied}
+use Rattle.core_quick.specs.EndEvent.{back_from, learnt_by, ended_plainly, ended_by_fault}
+use Rattle.core_quick.specs.Hold.{code_of, len_seen, readable_seen, dies_held, call_seen, hold}
+use Rattle.core_quick.proofs.Calls.{still_there}
+use Rattle.core_quick.proofs.Views.{find_map}
 use Rattle.core_hold.proofs.Actors.{not_owner, not_seeing}
 use Rattle.core_hold.proofs.Views.{same_hold, lane_other, lane_other_call, seen_put, unseen, owned_put, owned_lane, not_owned_at}
 use Rattle.core_hold.proofs.Lanes.{no_call_owned}

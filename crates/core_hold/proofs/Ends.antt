@@ -1,20 +1,20 @@
 -- End: the kinds of it.
 use Rattle.std.proofs.Common.{◌≡◌, ℕ, Bool, true, false, Some, refl, sym, ap, ◌∙◌, subst}
 use Rattle.std.specs.Prelude.{◌≢◌, if◌then◌else◌}
-use Rattle.plain_files.specs.declared.calls.Reply.{Reply}
-use Rattle.plain_files.specs.declared.calls.Request.{Request}
-use Rattle.plain_files.specs.Plain.{answer}
-use Rattle.core_state.specs.declared.actor.Actor.{Actor}
-use Rattle.core_state.specs.declared.actor.Actor.TheVariants.{Lane}
-use Rattle.core_state.specs.declared.event.Event.TheVariants.{End}
-use Rattle.core_state.specs.State.{Flight, Core}
-use Rattle.core_state.specs.PlainOf.{plain}
-use Rattle.core_state.specs.Dies.{owner}
-use Rattle.core_state.specs.Coherent.{Coherent}
-use Rattle.core_state.specs.EndEvent.{has_changed, ended_storing, ended_plainly, ended_by_fault, ended_of, EndsWell}
-use Rattle.core_state.specs.Hold.{hold}
-use Rattle.core_lemmas.proofs.Calls.{end_owned}
-use Rattle.core_lanes.proofs.Phases.{flight_is}
+use Rattle.core_quick.specs.Reply.{Reply}
+use Rattle.core_quick.specs.Request.{Request}
+use Rattle.core_quick.specs.Plain.{answer}
+use Rattle.core_quick.specs.Actor.{Actor}
+use Rattle.core_quick.specs.Actor.TheVariants.{Lane}
+use Rattle.core_quick.specs.Event.TheVariants.{End}
+use Rattle.core_quick.specs.State.{Flight, Core}
+use Rattle.core_quick.specs.PlainOf.{plain}
+use Rattle.core_quick.specs.Dies.{owner}
+use Rattle.core_quick.specs.Coherent.{Coherent}
+use Rattle.core_quick.specs.EndEvent.{has_changed, ended_storing, ended_plainly, ended_by_fault, ended_of, EndsWell}
+use Rattle.core_quick.specs.Hold.{hold}
+use Rattle.core_quick.proofs.Calls.{end_owned}
+use Rattle.core_quick.proofs.Phases.{flight_is}
 use Rattle.core_hold.specs.Keeps.{KeepsHolds}
 use Rattle.core_hold.proofs.Endings.{plainly_holds, fault_holds}
 use Rattle.core_hold.proofs.Storing.{storing_holds}

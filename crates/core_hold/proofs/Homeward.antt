@@ -2,19 +2,19 @@
 use Rattle.std.proofs.Common.{◌≡◌, ℕ, ◌+◌, Bool, true, false, Option, Some, None, refl, sym, ap, ◌∙◌, subst}
 use Rattle.std.specs.Prelude.{◌≢◌, ◌&&◌, ◌==◌, not}
 use Rattle.index_lists.specs.Words.{put, one_if}
-use Rattle.core_state.specs.declared.actor.Actor.{Actor}
-use Rattle.core_state.specs.declared.actor.Actor.TheVariants.{Lane, Worker, Flusher, Closer}
-use Rattle.core_state.specs.declared.event.Event.TheVariants.{FillIn, FlushIn, MetaIn}
-use Rattle.core_state.specs.State.{Page, Block, Mode, Shared, Exclusive, Flight, ToFill, ToFlush, ToMeta, Out, DieState, Core}
-use Rattle.core_state.specs.Contents.{with_copy, content, flashes, span_block, die_of, die_of_page, IsAway}
-use Rattle.core_state.specs.Reach.{by_mode}
-use Rattle.core_state.specs.Dies.{owner, IsSyncing, MayFlush, MaySync, IsFill}
-use Rattle.core_state.specs.Coherent.{Coherent}
-use Rattle.core_state.specs.DieEvents.{home_filled, home_written, marked_if, marked_by, written_page, flushed_block, filled_block, filled_flight, flash_at, filled_of, filled_by, flushed_by, counted, stored_of, stored_by, MayFillIn, MayFlushIn}
-use Rattle.core_state.specs.Hold.{call_owned, closer_held, hold}
-use Rattle.core_lemmas.proofs.Blocks.{contents_put}
-use Rattle.core_lanes.proofs.Phases.{flight_is}
-use Rattle.core_lanes.proofs.Metas.{sync_held}
+use Rattle.core_quick.specs.Actor.{Actor}
+use Rattle.core_quick.specs.Actor.TheVariants.{Lane, Worker, Flusher, Closer}
+use Rattle.core_quick.specs.Event.TheVariants.{FillIn, FlushIn, MetaIn}
+use Rattle.core_quick.specs.State.{Page, Block, Mode, Shared, Exclusive, Flight, ToFill, ToFlush, ToMeta, Out, DieState, Core}
+use Rattle.core_quick.specs.Contents.{with_copy, content, flashes, span_block, die_of, die_of_page, IsAway}
+use Rattle.core_quick.specs.Reach.{by_mode}
+use Rattle.core_quick.specs.Dies.{owner, IsSyncing, MayFlush, MaySync, IsFill}
+use Rattle.core_quick.specs.Coherent.{Coherent}
+use Rattle.core_quick.specs.DieEvents.{home_filled, home_written, marked_if, marked_by, written_page, flushed_block, filled_block, filled_flight, flash_at, filled_of, filled_by, flushed_by, counted, stored_of, stored_by, MayFillIn, MayFlushIn}
+use Rattle.core_quick.specs.Hold.{call_owned, closer_held, hold}
+use Rattle.core_quick.proofs.Blocks.{contents_put}
+use Rattle.core_quick.proofs.Phases.{flight_is}
+use Rattle.core_quick.proofs.Metas.{sync_held}
 use Rattle.core_pages.proofs.FillIn.{put_in_content, read_content as flash_content}
 use Rattle.core_pages.proofs.FlushIn.{flushed_is}
 use Rattle.core_hold.specs.Keeps.{KeepsHolds}

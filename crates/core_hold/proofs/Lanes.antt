@@ -3,16 +3,16 @@ use Rattle.std.proofs.Common.{◌≡◌, ℕ, ◌+◌, Bool, Option, Some, None,
 use Rattle.std.specs.Prelude.{◌≢◌}
 use Rattle.dispatcher.specs.declared.side.Side.{Side}
 use Rattle.index_lists.specs.Words.{put}
-use Rattle.plain_files.specs.declared.calls.Request.{Request}
-use Rattle.core_state.specs.declared.actor.Actor.{Actor}
-use Rattle.core_state.specs.declared.actor.Actor.TheVariants.{Lane}
-use Rattle.core_state.specs.declared.event.Event.TheVariants.{Enter, Leave, Skip, Begin}
-use Rattle.core_state.specs.State.{LaneState, Inside, Gone, Held, Flight, Core}
-use Rattle.core_state.specs.Contents.{contents}
-use Rattle.core_state.specs.Reach.{claim_for}
-use Rattle.core_state.specs.LaneEvents.{replied, first_flight}
-use Rattle.core_state.specs.Hold.{call_seen, call_owned, hold}
-use Rattle.core_lanes.proofs.Idle.{none_of}
+use Rattle.core_quick.specs.Request.{Request}
+use Rattle.core_quick.specs.Actor.{Actor}
+use Rattle.core_quick.specs.Actor.TheVariants.{Lane}
+use Rattle.core_quick.specs.Event.TheVariants.{Enter, Leave, Skip, Begin}
+use Rattle.core_quick.specs.State.{LaneState, Inside, Gone, Held, Flight, Core}
+use Rattle.core_quick.specs.Contents.{contents}
+use Rattle.core_quick.specs.Reach.{claim_for}
+use Rattle.core_quick.specs.LaneEvents.{replied, first_flight}
+use Rattle.core_quick.specs.Hold.{call_seen, call_owned, hold}
+use Rattle.core_quick.proofs.Idle.{none_of}
 use Rattle.core_hold.specs.Keeps.{KeepsHolds}
 use Rattle.core_hold.proofs.Actors.{not_owner, not_seeing}
 use Rattle.core_hold.proofs.Views.{same_hold, lane_other, lane_other_call, seen_put, unseen, owned_put, owned_lane, not_owned}

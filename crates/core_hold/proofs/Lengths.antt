@@ -4,10 +4,10 @@ use Rattle.std.specs.Prelude.{◌≢◌, ◌/◌, ◌&&◌, ◌||◌, nat_lt, mi
 use Rattle.std.proofs.lemmas.Bool.Decides.{nat_tests}
 use Rattle.page_base.specs.Bytes.{Pages}
 use Rattle.index_lists.proofs.Counts.{same_or_not}
-use Rattle.core_state.specs.State.{Reach, Claim}
-use Rattle.core_state.specs.Reach.{is_trunc, is_read, is_exclusive, lengthens}
-use Rattle.core_state.specs.Hold.{len_seen, readable_seen}
-use Rattle.core_lemmas.proofs.Words.{less_or_not}
+use Rattle.core_quick.specs.State.{Reach, Claim}
+use Rattle.core_quick.specs.Reach.{is_trunc, is_read, is_exclusive, lengthens}
+use Rattle.core_quick.specs.Hold.{len_seen, readable_seen}
+use Rattle.core_quick.proofs.Words.{less_or_not}
 use Rattle.core_hold.proofs.Reaches.{Stretches, Apart, Tells, changed_at, came, went}
 
 below_page : (len : ℕ) → Pages len ≤ 65536 → len / 4096 < 65537

@@ -7,12 +7,12 @@ use Rattle.std.proofs.lemmas.Bool.Decides.{nat_tests}
 use Rattle.page_base.specs.Bytes.{Pages}
 use Rattle.index_lists.specs.Words.{count}
 use Rattle.index_lists.proofs.Counts.{same_or_not, count-nil, count-here, count-there, count-append}
-use Rattle.core_state.specs.Words.{is_at, any_to, is_in}
-use Rattle.core_state.specs.State.{Shape, Block, File, Names, Places}
-use Rattle.core_state.specs.Contents.{flashes}
-use Rattle.core_state.specs.Placed.{HavePlaces}
-use Rattle.core_state.specs.Resizing.{is_placed, free_blocks, blocks_between, renewed, renewed_in}
-use Rattle.core_lemmas.proofs.Spans.{listed-none}
+use Rattle.core_quick.specs.Words.{is_at, any_to, is_in}
+use Rattle.core_quick.specs.State.{Shape, Block, File, Names, Places}
+use Rattle.core_quick.specs.Contents.{flashes}
+use Rattle.core_quick.specs.Placed.{HavePlaces}
+use Rattle.core_quick.specs.Resizing.{is_placed, free_blocks, blocks_between, renewed, renewed_in}
+use Rattle.core_quick.proofs.Spans.{listed-none}
 use Rattle.core_quick.proofs.Named.{in_cases, in_none}
 
 -- ---- counts of parts of a list

@@ -5,21 +5,21 @@ use Rattle.std.specs.List.{Contains, find, slice_get}
 use Rattle.std.proofs.lemmas.Bool.Decides.{nat_tests}
 use Rattle.page_base.specs.Bytes.{Pages}
 use Rattle.index_lists.proofs.Counts.{same_or_not}
-use Rattle.plain_files.specs.declared.calls.PlainFile.{PlainFile}
-use Rattle.plain_files.specs.Lists.{with_changed}
-use Rattle.plain_files.specs.Plain.{State, file_of, is_file}
-use Rattle.core_state.specs.State.{Block, File, Places, Exclusive, Reach, Claim, Flight, Core}
-use Rattle.core_state.specs.Contents.{contents, span_block}
-use Rattle.core_state.specs.Reach.{file_word, file_by, file_for, id_or_none, len_or_none, reach_of}
-use Rattle.core_state.specs.PlainOf.{plain_file, plain, bytes_or_none, bytes_by_id, page_at}
-use Rattle.core_state.specs.InFlight.{claim_of, InRange, IsRight}
-use Rattle.core_state.specs.Coherent.{Coherent}
-use Rattle.core_state.specs.Resizing.{free_blocks, blocks_between, new_places, renewed_in}
-use Rattle.core_state.specs.EndEvent.{with_span}
-use Rattle.core_lemmas.proofs.Words.{same_some}
-use Rattle.core_lemmas.proofs.Spans.{listed-none, pages_fit, span_in, only_span, file_in, not_both}
-use Rattle.core_lemmas.proofs.Finds.{found_passes}
-use Rattle.core_lemmas.proofs.Views.{file_seen}
+use Rattle.core_quick.specs.PlainFile.{PlainFile}
+use Rattle.core_quick.specs.Lists.{with_changed}
+use Rattle.core_quick.specs.Plain.{State, file_of, is_file}
+use Rattle.core_quick.specs.State.{Block, File, Places, Exclusive, Reach, Claim, Flight, Core}
+use Rattle.core_quick.specs.Contents.{contents, span_block}
+use Rattle.core_quick.specs.Reach.{file_word, file_by, file_for, id_or_none, len_or_none, reach_of}
+use Rattle.core_quick.specs.PlainOf.{plain_file, plain, bytes_or_none, bytes_by_id, page_at}
+use Rattle.core_quick.specs.InFlight.{claim_of, InRange, IsRight}
+use Rattle.core_quick.specs.Coherent.{Coherent}
+use Rattle.core_quick.specs.Resizing.{free_blocks, blocks_between, new_places, renewed_in}
+use Rattle.core_quick.specs.EndEvent.{with_span}
+use Rattle.core_quick.proofs.Words.{same_some}
+use Rattle.core_quick.proofs.Spans.{listed-none, pages_fit, span_in, only_span, file_in, not_both}
+use Rattle.core_quick.proofs.Finds.{found_passes}
+use Rattle.core_quick.proofs.Views.{file_seen}
 use Rattle.core_quick.proofs.Named.{in_here, in_there, in_map, one_of_id}
 use Rattle.core_hold.proofs.Moves.{not_fresh, out_of_both, stays_so, other_stays}
 use Rattle.core_hold.proofs.Quicks.{other_place}

@@ -1,16 +1,16 @@
 -- A die goes out: DieOut and FlushOut.
 use Rattle.std.proofs.Common.{◌≡◌, ℕ, None, refl, sym, ap, ◌∙◌}
 use Rattle.std.specs.Prelude.{◌≢◌}
-use Rattle.core_state.specs.declared.actor.Actor.{Actor}
-use Rattle.core_state.specs.declared.event.Event.TheVariants.{DieOut, FlushOut}
-use Rattle.core_state.specs.declared.event.Purpose.{Purpose}
-use Rattle.core_state.specs.declared.event.Purpose.TheVariants.{Fill, Meta}
-use Rattle.core_state.specs.State.{Errand, ToFill, ToMeta, Core}
-use Rattle.core_state.specs.Contents.{flashes}
-use Rattle.core_state.specs.DieEvents.{die_out, sent, flush_of, is_flushable}
-use Rattle.core_state.specs.Hold.{hold}
-use Rattle.core_lemmas.proofs.Finds.{found_passes}
-use Rattle.core_lanes.proofs.Outward.{home_is}
+use Rattle.core_quick.specs.Actor.{Actor}
+use Rattle.core_quick.specs.Event.TheVariants.{DieOut, FlushOut}
+use Rattle.core_quick.specs.Purpose.{Purpose}
+use Rattle.core_quick.specs.Purpose.TheVariants.{Fill, Meta}
+use Rattle.core_quick.specs.State.{Errand, ToFill, ToMeta, Core}
+use Rattle.core_quick.specs.Contents.{flashes}
+use Rattle.core_quick.specs.DieEvents.{die_out, sent, flush_of, is_flushable}
+use Rattle.core_quick.specs.Hold.{hold}
+use Rattle.core_quick.proofs.Finds.{found_passes}
+use Rattle.core_quick.proofs.Outward.{home_is}
 use Rattle.core_hold.specs.Keeps.{KeepsHolds}
 use Rattle.core_hold.proofs.Actors.{not_actor, not_held}
 use Rattle.core_hold.proofs.Views.{same_hold}

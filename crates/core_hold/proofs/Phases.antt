@@ -5,16 +5,16 @@ use mathlib.Core.Path.{fun_ext}
 use Rattle.index_lists.specs.Words.{put, count}
 use Rattle.index_lists.proofs.Counts.{same_or_not, count-here}
 use Rattle.index_lists.proofs.Puts.{put-same, put-other}
-use Rattle.core_state.specs.declared.actor.Actor.{Actor}
-use Rattle.core_state.specs.declared.actor.Actor.TheVariants.{Lane, Worker, Flusher, Closer}
-use Rattle.core_state.specs.declared.event.Event.TheVariants.{Submit, Fetch}
-use Rattle.core_state.specs.State.{Page, Names, Places, LaneState, Phase, Held, Queued, Running, Flight, Core}
-use Rattle.core_state.specs.Contents.{contents}
-use Rattle.core_state.specs.Frames.{is_queued}
-use Rattle.core_state.specs.LaneEvents.{result_of}
-use Rattle.core_state.specs.Hold.{is_owner, is_held, SeenCall, seen_call, call_seen, OwnedCall, owned_call, call_owned, hold}
-use Rattle.core_lemmas.proofs.Calls.{phased}
-use Rattle.core_lanes.proofs.Phases.{flight_is, InQueue, queued_call_of, true_of}
+use Rattle.core_quick.specs.Actor.{Actor}
+use Rattle.core_quick.specs.Actor.TheVariants.{Lane, Worker, Flusher, Closer}
+use Rattle.core_quick.specs.Event.TheVariants.{Submit, Fetch}
+use Rattle.core_quick.specs.State.{Page, Names, Places, LaneState, Phase, Held, Queued, Running, Flight, Core}
+use Rattle.core_quick.specs.Contents.{contents}
+use Rattle.core_quick.specs.Frames.{is_queued}
+use Rattle.core_quick.specs.LaneEvents.{result_of}
+use Rattle.core_quick.specs.Hold.{is_owner, is_held, SeenCall, seen_call, call_seen, OwnedCall, owned_call, call_owned, hold}
+use Rattle.core_quick.proofs.Calls.{phased}
+use Rattle.core_quick.proofs.Phases.{flight_is, InQueue, queued_call_of, true_of}
 use Rattle.core_hold.specs.Keeps.{KeepsHolds, owned_in, with_report, HandsBack}
 use Rattle.core_hold.proofs.Actors.{is_itself, not_owner, unowned, not_seeing, lane_sees}
 use Rattle.core_hold.proofs.Views.{same_hold, lane_other_call, lane_flies, seen_by, seen_put, unseen, owned_by, owned_put, not_owned}

@@ -8,30 +8,30 @@ use Rattle.name_table.specs.Name.{is_name}
 use Rattle.page_base.specs.Bytes.{Pages}
 use Rattle.sbpf_insn.specs.declared.insn.Insn.{Insn}
 use Rattle.index_lists.specs.Words.{put}
-use Rattle.plain_files.specs.declared.calls.Call.{Call}
-use Rattle.plain_files.specs.declared.calls.Call.TheVariants.{Create, OpenFile, Stat, Remove, Seal, Load, Unload, Sync}
-use Rattle.plain_files.specs.declared.calls.PlainFile.{PlainFile}
-use Rattle.plain_files.specs.declared.calls.Reply.{Reply}
-use Rattle.plain_files.specs.declared.calls.Reply.TheVariants.{Id, BadName, Exists, Full, FnFull}
-use Rattle.plain_files.specs.declared.calls.Request.{Request}
-use Rattle.plain_files.specs.Lists.{without}
-use Rattle.plain_files.specs.Steps.{◌>>=◌, refuse}
-use Rattle.plain_files.specs.Plain.{State, file_of, function_of, is_file, is_function, is_full, with_file, with_sealed, done_with_functions, accepted_code, early, effect, or_refusal, answer_after}
-use Rattle.core_state.specs.declared.actor.Actor.{Actor}
-use Rattle.core_state.specs.declared.actor.Actor.TheVariants.{Lane}
-use Rattle.core_state.specs.declared.event.Event.TheVariants.{Quick}
-use Rattle.core_state.specs.State.{Page, File, Places, Claim, Core}
-use Rattle.core_state.specs.Contents.{content, contents}
-use Rattle.core_state.specs.Reach.{is_data, is_sync, file_word, function_word, file_by, file_for, reach_of, len_or_none, word_is}
-use Rattle.core_state.specs.PlainOf.{plain_file, plain, bytes_or_none, bytes_by_id, names_like}
-use Rattle.core_state.specs.InFlight.{claim_of, claims}
-use Rattle.core_state.specs.Coherent.{Coherent}
-use Rattle.core_state.specs.Resizing.{free_blocks, blocks_between, page_between, new_places, renewed_in, follows}
-use Rattle.core_state.specs.LaneEvents.{replied, is_quick, IsUnheld, IsUnused, IsClear}
-use Rattle.core_state.specs.Hold.{len_seen, readable_seen, dies_held, hold}
-use Rattle.core_lemmas.proofs.Words.{same_some}
-use Rattle.core_lemmas.proofs.Spans.{file_in}
-use Rattle.core_lemmas.proofs.Views.{file_seen}
+use Rattle.core_quick.specs.Call.{Call}
+use Rattle.core_quick.specs.Call.TheVariants.{Create, OpenFile, Stat, Remove, Seal, Load, Unload, Sync}
+use Rattle.core_quick.specs.PlainFile.{PlainFile}
+use Rattle.core_quick.specs.Reply.{Reply}
+use Rattle.core_quick.specs.Reply.TheVariants.{Id, BadName, Exists, Full, FnFull}
+use Rattle.core_quick.specs.Request.{Request}
+use Rattle.core_quick.specs.Lists.{without}
+use Rattle.core_quick.specs.Steps.{◌>>=◌, refuse}
+use Rattle.core_quick.specs.Plain.{State, file_of, function_of, is_file, is_function, is_full, with_file, with_sealed, done_with_functions, accepted_code, early, effect, or_refusal, answer_after}
+use Rattle.core_quick.specs.Actor.{Actor}
+use Rattle.core_quick.specs.Actor.TheVariants.{Lane}
+use Rattle.core_quick.specs.Event.TheVariants.{Quick}
+use Rattle.core_quick.specs.State.{Page, File, Places, Claim, Core}
+use Rattle.core_quick.specs.Contents.{content, contents}
+use Rattle.core_quick.specs.Reach.{is_data, is_sync, file_word, function_word, file_by, file_for, reach_of, len_or_none, word_is}
+use Rattle.core_quick.specs.PlainOf.{plain_file, plain, bytes_or_none, bytes_by_id, names_like}
+use Rattle.core_quick.specs.InFlight.{claim_of, claims}
+use Rattle.core_quick.specs.Coherent.{Coherent}
+use Rattle.core_quick.specs.Resizing.{free_blocks, blocks_between, page_between, new_places, renewed_in, follows}
+use Rattle.core_quick.specs.LaneEvents.{replied, is_quick, IsUnheld, IsUnused, IsClear}
+use Rattle.core_quick.specs.Hold.{len_seen, readable_seen, dies_held, hold}
+use Rattle.core_quick.proofs.Words.{same_some}
+use Rattle.core_quick.proofs.Spans.{file_in}
+use Rattle.core_quick.proofs.Views.{file_seen}
 use Rattle.core_quick.proofs.Named.{find_append, find_without}
 use Rattle.core_quick.proofs.Renamed.{len_by_id, follows_is}
 use Rattle.core_quick.proofs.Flying.{flies_on, file_flies, function_flies}

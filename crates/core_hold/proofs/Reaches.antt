@@ -3,11 +3,11 @@ use Rattle.std.proofs.Common.{◌≡◌, ℕ, ◌+◌, ◌-◌, ◌<◌, ◌≤�
 use Rattle.std.specs.Prelude.{◌≢◌, ◌⊎◌, ◌==◌, ◌/◌, nat_lt, min, if◌then◌else◌}
 use Rattle.std.proofs.lemmas.Bool.Decides.{nat_tests}
 use Rattle.page_base.specs.Bytes.{Pages}
-use Rattle.plain_files.specs.declared.calls.Call.{Call}
-use Rattle.plain_files.specs.declared.calls.Call.TheVariants.{Create, OpenFile, Stat, Remove, Read, Write, Append, Trunc, Seal, Load, Unload, Readl, Writel, Sync}
-use Rattle.core_state.specs.State.{Shared, Exclusive, Reach}
-use Rattle.core_state.specs.Reach.{is_trunc, is_read, is_exclusive, no_reach, read_reach, write_reach, trunc_reach, reach_of}
-use Rattle.core_state.specs.InFlight.{InRange}
+use Rattle.core_quick.specs.Call.{Call}
+use Rattle.core_quick.specs.Call.TheVariants.{Create, OpenFile, Stat, Remove, Read, Write, Append, Trunc, Seal, Load, Unload, Readl, Writel, Sync}
+use Rattle.core_quick.specs.State.{Shared, Exclusive, Reach}
+use Rattle.core_quick.specs.Reach.{is_trunc, is_read, is_exclusive, no_reach, read_reach, write_reach, trunc_reach, reach_of}
+use Rattle.core_quick.specs.InFlight.{InRange}
 
 -- a change of length lies within the locked pages
 pub record Stretches (reach : Reach) (len len2 : ℕ) : Type 0 where

@@ -4,10 +4,10 @@ use Rattle.std.specs.Prelude.{◌≢◌, ◌⊎◌, ◌==◌, ◌/◌, nat_lt, m
 use Rattle.std.proofs.lemmas.Bool.Decides.{nat_tests}
 use Rattle.std.proofs.lemmas.List.{length-append, length-take, length-replicate, get_or_append_left, get_or-append_right, get_or-take, get_or-drop, get_or-replicate, get_or_past}
 use Rattle.page_base.specs.Bytes.{Pages, Put}
-use Rattle.plain_files.specs.Plain.{with_length}
-use Rattle.core_state.specs.State.{Exclusive, Reach}
-use Rattle.core_state.specs.Reach.{no_reach, write_reach, trunc_reach}
-use Rattle.core_lemmas.proofs.Words.{less_or_not}
+use Rattle.core_quick.specs.Plain.{with_length}
+use Rattle.core_quick.specs.State.{Exclusive, Reach}
+use Rattle.core_quick.specs.Reach.{no_reach, write_reach, trunc_reach}
+use Rattle.core_quick.proofs.Words.{less_or_not}
 
 -- past the pages of the span the new bytes are the old ones, with zeros past their end
 abbrev pub RestStays : Reach → List ℕ → List ℕ → Type 0

@@ -5,17 +5,17 @@ use mathlib.Core.Path.{fun_ext}
 use Rattle.std.proofs.lemmas.Bool.Decides.{nat_tests}
 use Rattle.page_base.specs.Bytes.{zero_page}
 use Rattle.sbpf_insn.specs.declared.insn.Insn.{Insn}
-use Rattle.plain_files.specs.declared.calls.Call.{Call}
-use Rattle.plain_files.specs.declared.calls.PlainFile.{PlainFile}
-use Rattle.plain_files.specs.Plain as plain_files
-use Rattle.plain_files.specs.Plain.{State, file_of, function_of}
-use Rattle.core_state.specs.declared.actor.Actor.{Actor}
-use Rattle.core_state.specs.State.{Page, Shape, File, Function, Names, Places, Claim, Flight}
-use Rattle.core_state.specs.Contents.{page_of, span_block}
-use Rattle.core_state.specs.Reach.{file_word, function_word, file_by, function_by, function_for, len_or_none}
-use Rattle.core_state.specs.PlainOf.{plain_file, plain_function, plain_of, file_page, file_like, function_like, names_like}
-use Rattle.core_state.specs.Hold.{sees, is_held, code_of, cut_to, len_seen, readable_seen, len_for, SeenCall, seen_call, call_seen}
-use Rattle.core_lemmas.proofs.Views.{find_map, file_seen, function_seen}
+use Rattle.core_quick.specs.Call.{Call}
+use Rattle.core_quick.specs.PlainFile.{PlainFile}
+use Rattle.core_quick.specs.Plain as plain_files
+use Rattle.core_quick.specs.Plain.{State, file_of, function_of}
+use Rattle.core_quick.specs.Actor.{Actor}
+use Rattle.core_quick.specs.State.{Page, Shape, File, Function, Names, Places, Claim, Flight}
+use Rattle.core_quick.specs.Contents.{page_of, span_block}
+use Rattle.core_quick.specs.Reach.{file_word, function_word, file_by, function_by, function_for, len_or_none}
+use Rattle.core_quick.specs.PlainOf.{plain_file, plain_function, plain_of, file_page, file_like, function_like, names_like}
+use Rattle.core_quick.specs.Hold.{sees, is_held, code_of, cut_to, len_seen, readable_seen, len_for, SeenCall, seen_call, call_seen}
+use Rattle.core_quick.proofs.Views.{find_map, file_seen, function_seen}
 use Rattle.core_quick.proofs.Seen.{length_bytes}
 use Rattle.core_hold.proofs.Views.{seen_by}
 

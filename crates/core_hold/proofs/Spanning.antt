@@ -7,12 +7,12 @@ use Rattle.std.proofs.lemmas.Bool.Decides.{nat_tests}
 use Rattle.dispatcher.specs.declared.side.Side.{Side}
 use Rattle.index_lists.specs.Words.{count}
 use Rattle.index_lists.proofs.Counts.{count-here, count-tail}
-use Rattle.core_state.specs.Words.{is_at, or_else, first_to}
-use Rattle.core_state.specs.State.{Page, Block, Places}
-use Rattle.core_state.specs.Contents.{flashes}
-use Rattle.core_state.specs.Resizing.{page_between, new_places}
-use Rattle.core_state.specs.EndEvent.{installed_at, with_span}
-use Rattle.core_lemmas.proofs.Words.{low, high}
+use Rattle.core_quick.specs.Words.{is_at, or_else, first_to}
+use Rattle.core_quick.specs.State.{Page, Block, Places}
+use Rattle.core_quick.specs.Contents.{flashes}
+use Rattle.core_quick.specs.Resizing.{page_between, new_places}
+use Rattle.core_quick.specs.EndEvent.{installed_at, with_span}
+use Rattle.core_quick.proofs.Words.{low, high}
 
 none_else : (n : ℕ) (o : Option ℕ) (t : Bool) → o ≡ None → t ≡ false → or_else o (if t then Some n else None) ≡ None
 none_else n o true e f = absurd (cc)

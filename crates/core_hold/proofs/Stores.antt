@@ -6,15 +6,15 @@ use Rattle.std.proofs.lemmas.Bool.Decides.{nat_tests}
 use Rattle.std.proofs.lemmas.List.{length-append, length-take, length-drop, length-replicate}
 use Rattle.page_base.specs.Bytes.{Pages, Cut, Put}
 use Rattle.sbpf_insn.specs.Machine as machine
-use Rattle.plain_files.specs.declared.calls.Call.{Call}
-use Rattle.plain_files.specs.declared.calls.Call.TheVariants.{Read, Write, Append, Trunc, Readl, Writel}
-use Rattle.plain_files.specs.declared.calls.Reply.{Reply}
-use Rattle.plain_files.specs.declared.calls.Reply.TheVariants.{Done, At, Val, NoSpace, TooLong, NoFile, NoFn, AppendOnly, TooBig}
-use Rattle.plain_files.specs.Steps.{◌>>=◌, refuse}
-use Rattle.plain_files.specs.Plain.{State, bytes_in, code_in, is_overfull, with_content, stored, with_length, ended, is_too_long, lacks_file, lacks_function, is_append_only, end_of, early, effect, or_refusal, answer_after, answer}
-use Rattle.core_state.specs.State.{Shared, Exclusive, Reach}
-use Rattle.core_state.specs.Reach.{is_exclusive, file_word, no_reach, read_reach, write_reach, trunc_reach, reach_of}
-use Rattle.core_state.specs.PlainOf.{has_stored}
+use Rattle.core_quick.specs.Call.{Call}
+use Rattle.core_quick.specs.Call.TheVariants.{Read, Write, Append, Trunc, Readl, Writel}
+use Rattle.core_quick.specs.Reply.{Reply}
+use Rattle.core_quick.specs.Reply.TheVariants.{Done, At, Val, NoSpace, TooLong, NoFile, NoFn, AppendOnly, TooBig}
+use Rattle.core_quick.specs.Steps.{◌>>=◌, refuse}
+use Rattle.core_quick.specs.Plain.{State, bytes_in, code_in, is_overfull, with_content, stored, with_length, ended, is_too_long, lacks_file, lacks_function, is_append_only, end_of, early, effect, or_refusal, answer_after, answer}
+use Rattle.core_quick.specs.State.{Shared, Exclusive, Reach}
+use Rattle.core_quick.specs.Reach.{is_exclusive, file_word, no_reach, read_reach, write_reach, trunc_reach, reach_of}
+use Rattle.core_quick.specs.PlainOf.{has_stored}
 use Rattle.core_hold.proofs.Reaches.{Stretches}
 use Rattle.core_hold.proofs.Outputs.{EndsAsLong, run_long}
 use Rattle.core_hold.proofs.Rests.{RestStays, write_rest, trunc_rest}

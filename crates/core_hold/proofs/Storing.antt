@@ -5,26 +5,26 @@ use Rattle.std.specs.List.{find}
 use Rattle.std.proofs.lemmas.Slice.Eq.{bytes_eq-Decides}
 use Rattle.page_base.specs.Bytes.{Pages}
 use Rattle.index_lists.proofs.Counts.{same_or_not}
-use Rattle.plain_files.specs.declared.calls.Call.{Call}
-use Rattle.plain_files.specs.declared.calls.Call.TheVariants.{Read, Write, Append, Trunc, Readl, Writel}
-use Rattle.plain_files.specs.declared.calls.PlainFile.{PlainFile}
-use Rattle.plain_files.specs.Lists.{with_changed}
-use Rattle.plain_files.specs.Plain.{State, file_of, is_file}
-use Rattle.core_state.specs.declared.actor.Actor.{Actor}
-use Rattle.core_state.specs.declared.actor.Actor.TheVariants.{Lane}
-use Rattle.core_state.specs.State.{File, Reach, Claim, Flight, Core}
-use Rattle.core_state.specs.Contents.{content, contents, span_block}
-use Rattle.core_state.specs.Reach.{is_data, is_sync, file_word, file_by, file_for, function_for, len_or_none, reach_of}
-use Rattle.core_state.specs.PlainOf.{plain_file, plain, bytes_by_id, page_at, file_like, names_like}
-use Rattle.core_state.specs.InFlight.{claim_of}
-use Rattle.core_state.specs.Coherent.{Coherent}
-use Rattle.core_state.specs.Dies.{owner}
-use Rattle.core_state.specs.Resizing.{blocks_between, follows}
-use Rattle.core_state.specs.EndEvent.{spanned, landed, learnt_by}
-use Rattle.core_state.specs.Hold.{code_of, len_seen, readable_seen, len_for, hold}
-use Rattle.core_lemmas.proofs.Words.{same_some}
-use Rattle.core_lemmas.proofs.Spans.{file_in}
-use Rattle.core_lemmas.proofs.Finds.{found_passes}
+use Rattle.core_quick.specs.Call.{Call}
+use Rattle.core_quick.specs.Call.TheVariants.{Read, Write, Append, Trunc, Readl, Writel}
+use Rattle.core_quick.specs.PlainFile.{PlainFile}
+use Rattle.core_quick.specs.Lists.{with_changed}
+use Rattle.core_quick.specs.Plain.{State, file_of, is_file}
+use Rattle.core_quick.specs.Actor.{Actor}
+use Rattle.core_quick.specs.Actor.TheVariants.{Lane}
+use Rattle.core_quick.specs.State.{File, Reach, Claim, Flight, Core}
+use Rattle.core_quick.specs.Contents.{content, contents, span_block}
+use Rattle.core_quick.specs.Reach.{is_data, is_sync, file_word, file_by, file_for, function_for, len_or_none, reach_of}
+use Rattle.core_quick.specs.PlainOf.{plain_file, plain, bytes_by_id, page_at, file_like, names_like}
+use Rattle.core_quick.specs.InFlight.{claim_of}
+use Rattle.core_quick.specs.Coherent.{Coherent}
+use Rattle.core_quick.specs.Dies.{owner}
+use Rattle.core_quick.specs.Resizing.{blocks_between, follows}
+use Rattle.core_quick.specs.EndEvent.{spanned, landed, learnt_by}
+use Rattle.core_quick.specs.Hold.{code_of, len_seen, readable_seen, len_for, hold}
+use Rattle.core_quick.proofs.Words.{same_some}
+use Rattle.core_quick.proofs.Spans.{file_in}
+use Rattle.core_quick.proofs.Finds.{found_passes}
 use Rattle.core_quick.proofs.Named.{find_changed, one_of_id}
 use Rattle.core_quick.proofs.Flying.{FliesOn, flies_on}
 use Rattle.core_hold.proofs.Seeing.{StillSees, plain_len, len_new, len_found, code_alike}

@@ -4,14 +4,14 @@ use Rattle.std.specs.Prelude.{◌≢◌, if◌then◌else◌, is_some}
 use mathlib.Core.Path.{fun_ext}
 use Rattle.index_lists.specs.Words.{put}
 use Rattle.index_lists.proofs.Puts.{put-other, put-each}
-use Rattle.core_state.specs.declared.actor.Actor.{Actor}
-use Rattle.core_state.specs.declared.actor.Actor.TheVariants.{Lane, Worker, Flusher, Closer}
-use Rattle.core_state.specs.Words.{changed_at}
-use Rattle.core_state.specs.State.{Page, Block, Names, Places, LaneState, Flight}
-use Rattle.core_state.specs.Contents.{content, contents, flashes}
-use Rattle.core_state.specs.DieEvents.{marked_if}
-use Rattle.core_state.specs.Hold.{is_owner, sees, HeldLane, lane_alone, lane_held, SeenCall, seen_call, call_seen, OwnedCall, owned_call, call_owned, Hold}
-use Rattle.core_lemmas.proofs.Blocks.{contents_put}
+use Rattle.core_quick.specs.Actor.{Actor}
+use Rattle.core_quick.specs.Actor.TheVariants.{Lane, Worker, Flusher, Closer}
+use Rattle.core_quick.specs.Words.{changed_at}
+use Rattle.core_quick.specs.State.{Page, Block, Names, Places, LaneState, Flight}
+use Rattle.core_quick.specs.Contents.{content, contents, flashes}
+use Rattle.core_quick.specs.DieEvents.{marked_if}
+use Rattle.core_quick.specs.Hold.{is_owner, sees, HeldLane, lane_alone, lane_held, SeenCall, seen_call, call_seen, OwnedCall, owned_call, call_owned, Hold}
+use Rattle.core_quick.proofs.Blocks.{contents_put}
 
 -- the same in each part
 pub same_hold : (h k : Hold) → h.dies ≡ k.dies → h.lane ≡ k.lane → h.seen ≡ k.seen → h.owned ≡ k.owned → h.closer ≡ k.closer → h ≡ k

@@ -5,15 +5,15 @@
 -- result. It leaves the rest of it, and the Hold of all others, as it is.
 use Rattle.std.specs.Prelude.{◌≡◌, ◌≢◌, ℕ, Option, Some, None}
 use Rattle.index_lists.specs.Words.{put}
-use Rattle.core_state.specs.declared.actor.Actor.{Actor}
-use Rattle.core_state.specs.declared.actor.Actor.TheVariants.{Lane, Worker}
-use Rattle.core_state.specs.declared.event.Event.{Event}
-use Rattle.core_state.specs.declared.event.Event.TheVariants.{Report}
-use Rattle.core_state.specs.State.{Phase, Core}
-use Rattle.core_state.specs.Coherent.{Coherent}
-use Rattle.core_state.specs.LaneEvents.{result_of}
-use Rattle.core_state.specs.Happens.{actor_of, Happens}
-use Rattle.core_state.specs.Hold.{OwnedCall, Hold, hold}
+use Rattle.core_quick.specs.Actor.{Actor}
+use Rattle.core_quick.specs.Actor.TheVariants.{Lane, Worker}
+use Rattle.core_quick.specs.Event.{Event}
+use Rattle.core_quick.specs.Event.TheVariants.{Report}
+use Rattle.core_quick.specs.State.{Phase, Core}
+use Rattle.core_quick.specs.Coherent.{Coherent}
+use Rattle.core_quick.specs.LaneEvents.{result_of}
+use Rattle.core_quick.specs.Happens.{actor_of, Happens}
+use Rattle.core_quick.specs.Hold.{OwnedCall, Hold, hold}
 
 -- every actor but the event's own holds what it held
 abbrev pub KeepsHolds : Event → Type 0

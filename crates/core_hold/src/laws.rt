@@ -1,14 +1,14 @@
 //! Laws: each is the contract of an empty function.
 ghost use Rattle.std.specs.Prelude.{◌≡◌, ℕ, Bool, List};
 ghost use Rattle.dispatcher.specs.declared.side.Side.{Side};
-ghost use Rattle.plain_files.specs.declared.calls.Request.{Request};
-ghost use Rattle.plain_files.specs.declared.calls.Reply.{Reply};
-ghost use Rattle.core_state.specs.declared.actor.Actor.{Actor};
-ghost use Rattle.core_state.specs.declared.event.Event.TheVariants.{Enter, Leave, Quick, Skip, Begin, Submit, Fetch, DieOut, End, FlushOut, FillIn, FlushIn, MetaIn, Copy, Take, Evict, Demote};
-ghost use Rattle.core_state.specs.declared.event.Event.{Event};
-ghost use Rattle.core_state.specs.declared.event.Purpose.{Purpose};
-ghost use Rattle.core_state.specs.State.{Gone, Core};
-ghost use Rattle.core_state.specs.Happens.{Happens};
+ghost use Rattle.core_quick.specs.Request.{Request};
+ghost use Rattle.core_quick.specs.Reply.{Reply};
+ghost use Rattle.core_quick.specs.Actor.{Actor};
+ghost use Rattle.core_quick.specs.Event.TheVariants.{Enter, Leave, Quick, Skip, Begin, Submit, Fetch, DieOut, End, FlushOut, FillIn, FlushIn, MetaIn, Copy, Take, Evict, Demote};
+ghost use Rattle.core_quick.specs.Event.{Event};
+ghost use Rattle.core_quick.specs.Purpose.{Purpose};
+ghost use Rattle.core_quick.specs.State.{Gone, Core};
+ghost use Rattle.core_quick.specs.Happens.{Happens};
 ghost use Rattle.core_hold.specs.Keeps.{KeepsHolds, HandsBack, HoldsAfter};
 
 /// A lane that enters leaves what the others hold.

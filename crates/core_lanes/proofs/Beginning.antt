@@ -6,20 +6,20 @@ use Rattle.dispatcher.specs.declared.side.Side.TheVariants.{Host, Drive}
 use Rattle.index_lists.specs.Words.{put}
 use Rattle.index_lists.proofs.Counts.{same_or_not}
 use Rattle.index_lists.proofs.Puts.{put-same, put-other, put-some}
-use Rattle.plain_files.specs.declared.calls.Request.{Request}
-use Rattle.core_state.specs.declared.actor.Actor.{Actor}
-use Rattle.core_state.specs.declared.actor.Actor.TheVariants.{Lane, Worker, Flusher, Closer}
-use Rattle.core_state.specs.State.{Shape, Block, Places, LaneState, Inside, Mode, Shared, Exclusive, Claim, NoFrame, Reserved, OnLoan, Held, Flight, Errand, ToFill, ToFlush, ToMeta, Out, DieState, Core}
-use Rattle.core_state.specs.Contents.{contents, span_block, copy_at, is_blank}
-use Rattle.core_state.specs.Reach.{by_mode, is_lambda, claim_for}
-use Rattle.core_state.specs.PlainOf.{plain}
-use Rattle.core_state.specs.Sides.{frame_for}
-use Rattle.core_state.specs.InFlight.{claim_of, claims, IsLoanOf, Lent, IsRight}
-use Rattle.core_state.specs.Frames.{is_queued}
-use Rattle.core_state.specs.Dies.{MayFlush, MaySync, IsErrand, Dies}
-use Rattle.core_state.specs.Coherent.{Coherent}
-use Rattle.core_state.specs.LaneEvents.{first_frame, first_flight, begun, MayBegin}
-use Rattle.core_state.specs.Happens.{HoldsNone}
+use Rattle.core_lemmas.specs.Request.{Request}
+use Rattle.core_lemmas.specs.Actor.{Actor}
+use Rattle.core_lemmas.specs.Actor.TheVariants.{Lane, Worker, Flusher, Closer}
+use Rattle.core_lemmas.specs.State.{Shape, Block, Places, LaneState, Inside, Mode, Shared, Exclusive, Claim, NoFrame, Reserved, OnLoan, Held, Flight, Errand, ToFill, ToFlush, ToMeta, Out, DieState, Core}
+use Rattle.core_lemmas.specs.Contents.{contents, span_block, copy_at, is_blank}
+use Rattle.core_lemmas.specs.Reach.{by_mode, is_lambda, claim_for}
+use Rattle.core_lemmas.specs.PlainOf.{plain}
+use Rattle.core_lemmas.specs.Sides.{frame_for}
+use Rattle.core_lemmas.specs.InFlight.{claim_of, claims, IsLoanOf, Lent, IsRight}
+use Rattle.core_lemmas.specs.Frames.{is_queued}
+use Rattle.core_lemmas.specs.Dies.{MayFlush, MaySync, IsErrand, Dies}
+use Rattle.core_lemmas.specs.Coherent.{Coherent}
+use Rattle.core_lemmas.specs.LaneEvents.{first_frame, first_flight, begun, MayBegin}
+use Rattle.core_lemmas.specs.Happens.{HoldsNone}
 use Rattle.core_lemmas.proofs.Words.{nothing, same_some, lists_same}
 use Rattle.core_lemmas.proofs.Calls.{is_queued_put, is_queued_here, gathered_call, queued_call}
 

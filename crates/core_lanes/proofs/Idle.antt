@@ -2,14 +2,14 @@
 use Rattle.std.proofs.Common.{◌≡◌, ℕ, ◌+◌, Bool, Option, Some, None, refl, inl, inr}
 use Rattle.std.specs.Prelude.{◌≢◌, ◌⊎◌}
 use Rattle.index_lists.specs.Words.{put}
-use Rattle.plain_files.specs.declared.calls.Request.{Request}
-use Rattle.core_state.specs.declared.actor.Actor.TheVariants.{Lane}
-use Rattle.core_state.specs.State.{LaneState, Inside, Gone, Out, Core}
-use Rattle.core_state.specs.Contents.{contents}
-use Rattle.core_state.specs.PlainOf.{plain_of}
-use Rattle.core_state.specs.Coherent.{Coherent}
-use Rattle.core_state.specs.LaneEvents.{entered, left_by, skipped, replied, MayEnter, MayLeave, MaySkip}
-use Rattle.core_state.specs.Happens.{HoldsNone}
+use Rattle.core_lemmas.specs.Request.{Request}
+use Rattle.core_lemmas.specs.Actor.TheVariants.{Lane}
+use Rattle.core_lemmas.specs.State.{LaneState, Inside, Gone, Out, Core}
+use Rattle.core_lemmas.specs.Contents.{contents}
+use Rattle.core_lemmas.specs.PlainOf.{plain_of}
+use Rattle.core_lemmas.specs.Coherent.{Coherent}
+use Rattle.core_lemmas.specs.LaneEvents.{entered, left_by, skipped, replied, MayEnter, MayLeave, MaySkip}
+use Rattle.core_lemmas.specs.Happens.{HoldsNone}
 use Rattle.core_lemmas.proofs.Lanes.{queued_lane, gathered_lane, dies_lane}
 
 -- an option with no value is none

@@ -3,3 +3,11 @@ pub mod Phases
 pub mod Outward
 pub mod Beginning
 pub mod Metas
+pub use Rattle.core_lemmas.proofs.Spans
+pub use Rattle.core_lemmas.proofs.Views
+pub use Rattle.core_lemmas.proofs.Words
+pub use Rattle.core_lemmas.proofs.Finds
+pub use Rattle.core_lemmas.proofs.Calls
+pub use Rattle.core_lemmas.proofs.Blocks
+pub use Rattle.core_lemmas.proofs.Gathering
+pub use Rattle.core_lemmas.proofs.Dies

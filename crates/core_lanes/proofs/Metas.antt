@@ -5,19 +5,19 @@ use Rattle.dispatcher.specs.declared.side.Side.TheVariants.{Host, Drive}
 use Rattle.dispatcher.specs.declared.side.Side.{Side}
 use Rattle.index_lists.specs.Words.{put, one_if}
 use Rattle.index_lists.proofs.Counts.{same_or_not}
-use Rattle.plain_files.specs.declared.calls.Call.{Call}
-use Rattle.plain_files.specs.declared.calls.Call.TheVariants.{Sync}
-use Rattle.core_state.specs.declared.actor.Actor.{Actor}
-use Rattle.core_state.specs.declared.actor.Actor.TheVariants.{Lane, Worker, Flusher, Closer}
-use Rattle.core_state.specs.State.{Page, Held, Queued, Flight, ToMeta, Out, DieState, Core}
-use Rattle.core_state.specs.Contents.{contents}
-use Rattle.core_state.specs.Reach.{is_sync, is_lambda}
-use Rattle.core_state.specs.PlainOf.{plain}
-use Rattle.core_state.specs.InFlight.{claim_of, Locked}
-use Rattle.core_state.specs.Frames.{is_queued}
-use Rattle.core_state.specs.Dies.{owner}
-use Rattle.core_state.specs.Coherent.{Coherent}
-use Rattle.core_state.specs.DieEvents.{home_written, marked_if, counted, written_page, stored_of, stored_by, stored, MayMetaIn}
+use Rattle.core_lemmas.specs.Call.{Call}
+use Rattle.core_lemmas.specs.Call.TheVariants.{Sync}
+use Rattle.core_lemmas.specs.Actor.{Actor}
+use Rattle.core_lemmas.specs.Actor.TheVariants.{Lane, Worker, Flusher, Closer}
+use Rattle.core_lemmas.specs.State.{Page, Held, Queued, Flight, ToMeta, Out, DieState, Core}
+use Rattle.core_lemmas.specs.Contents.{contents}
+use Rattle.core_lemmas.specs.Reach.{is_sync, is_lambda}
+use Rattle.core_lemmas.specs.PlainOf.{plain}
+use Rattle.core_lemmas.specs.InFlight.{claim_of, Locked}
+use Rattle.core_lemmas.specs.Frames.{is_queued}
+use Rattle.core_lemmas.specs.Dies.{owner}
+use Rattle.core_lemmas.specs.Coherent.{Coherent}
+use Rattle.core_lemmas.specs.DieEvents.{home_written, marked_if, counted, written_page, stored_of, stored_by, stored, MayMetaIn}
 use Rattle.core_lemmas.proofs.Words.{same_some, lists_same}
 use Rattle.core_lemmas.proofs.Lanes.{queued_mark, gathered_mark, dies_mark}
 use Rattle.core_lemmas.proofs.Calls.{claims_put, loans_call, used_call, has_frames_call, dies_call, in_flight_call, gathered_call, queued_call, is_queued_put, is_queued_here}

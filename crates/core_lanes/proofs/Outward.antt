@@ -3,20 +3,20 @@ use Rattle.std.proofs.Common.{◌≡◌, ℕ, ◌+◌, ◌<◌, Bool, true, fals
 use Rattle.std.specs.Prelude.{◌≢◌, ◌⊎◌, ◌&&◌, not, nat_lt, is_none}
 use Rattle.std.proofs.lemmas.Bool.Decides.{nat_tests}
 use Rattle.index_lists.proofs.Counts.{same_or_not}
-use Rattle.core_state.specs.declared.actor.Actor.{Actor}
-use Rattle.core_state.specs.declared.actor.Actor.TheVariants.{Lane, Worker, Flusher, Closer}
-use Rattle.core_state.specs.State.{Page, Shape, Loan, Block, Names, Places, Flight, Errand, ToFill, ToMeta, Out, Core}
-use Rattle.core_state.specs.Contents.{span_block, is_unclean, has_copy, IsAway, IsBlank}
-use Rattle.core_state.specs.Placed.{Placed}
-use Rattle.core_state.specs.InFlight.{IsLentTo}
-use Rattle.core_state.specs.Dies.{MaySync, MayFlush, IsErrand}
-use Rattle.core_state.specs.PlainOf.{plain}
-use Rattle.core_state.specs.Coherent.{Coherent}
-use Rattle.core_state.specs.DieEvents.{die_out, flush_of, sent, is_flushable, FlushesFor, MayWriteMeta, MayFill, MayMeta, MayFlushOut}
-use Rattle.core_state.specs.Happens.{HoldsNone}
-use Rattle.core_state.specs.declared.event.Event.TheVariants.{DieOut}
-use Rattle.core_state.specs.declared.event.Purpose.{Purpose}
-use Rattle.core_state.specs.declared.event.Purpose.TheVariants.{Fill, Meta}
+use Rattle.core_lemmas.specs.Actor.{Actor}
+use Rattle.core_lemmas.specs.Actor.TheVariants.{Lane, Worker, Flusher, Closer}
+use Rattle.core_lemmas.specs.State.{Page, Shape, Loan, Block, Names, Places, Flight, Errand, ToFill, ToMeta, Out, Core}
+use Rattle.core_lemmas.specs.Contents.{span_block, is_unclean, has_copy, IsAway, IsBlank}
+use Rattle.core_lemmas.specs.Placed.{Placed}
+use Rattle.core_lemmas.specs.InFlight.{IsLentTo}
+use Rattle.core_lemmas.specs.Dies.{MaySync, MayFlush, IsErrand}
+use Rattle.core_lemmas.specs.PlainOf.{plain}
+use Rattle.core_lemmas.specs.Coherent.{Coherent}
+use Rattle.core_lemmas.specs.DieEvents.{die_out, flush_of, sent, is_flushable, FlushesFor, MayWriteMeta, MayFill, MayMeta, MayFlushOut}
+use Rattle.core_lemmas.specs.Happens.{HoldsNone}
+use Rattle.core_lemmas.specs.Event.TheVariants.{DieOut}
+use Rattle.core_lemmas.specs.Purpose.{Purpose}
+use Rattle.core_lemmas.specs.Purpose.TheVariants.{Fill, Meta}
 use Rattle.core_lanes.specs.Keeps.{Keeps}
 use Rattle.core_lemmas.proofs.Words.{nothing, same_some}
 use Rattle.core_lemmas.proofs.Dies.{dies_out}

@@ -5,18 +5,18 @@ use Rattle.dispatcher.specs.declared.side.Side.TheVariants.{Host}
 use Rattle.index_lists.specs.Words.{put, count, one_if, without}
 use Rattle.index_lists.proofs.Counts.{same_or_not, count-here}
 use Rattle.sbpf_insn.specs.Machine.{Outcome}
-use Rattle.core_state.specs.declared.actor.Actor.TheVariants.{Lane, Worker}
-use Rattle.core_state.specs.Words.{Lists}
-use Rattle.core_state.specs.State.{Phase, Held, Queued, Running, Reported, Flight, Out, Core}
-use Rattle.core_state.specs.Contents.{contents}
-use Rattle.core_state.specs.PlainOf.{plain, outcome_of}
-use Rattle.core_state.specs.Frames.{in_queue, is_queued}
-use Rattle.core_state.specs.Dies.{owner, IsResult}
-use Rattle.core_state.specs.InFlight.{Locked}
-use Rattle.core_state.specs.Coherent.{Coherent}
-use Rattle.core_state.specs.PageEvents.{no_flight, flight_at}
-use Rattle.core_state.specs.LaneEvents.{in_phase, result_of, submitted, fetched, reported, MaySubmit, MayFetch, MayReport}
-use Rattle.core_state.specs.Happens.{HoldsNone}
+use Rattle.core_lemmas.specs.Actor.TheVariants.{Lane, Worker}
+use Rattle.core_lemmas.specs.Words.{Lists}
+use Rattle.core_lemmas.specs.State.{Phase, Held, Queued, Running, Reported, Flight, Out, Core}
+use Rattle.core_lemmas.specs.Contents.{contents}
+use Rattle.core_lemmas.specs.PlainOf.{plain, outcome_of}
+use Rattle.core_lemmas.specs.Frames.{in_queue, is_queued}
+use Rattle.core_lemmas.specs.Dies.{owner, IsResult}
+use Rattle.core_lemmas.specs.InFlight.{Locked}
+use Rattle.core_lemmas.specs.Coherent.{Coherent}
+use Rattle.core_lemmas.specs.PageEvents.{no_flight, flight_at}
+use Rattle.core_lemmas.specs.LaneEvents.{in_phase, result_of, submitted, fetched, reported, MaySubmit, MayFetch, MayReport}
+use Rattle.core_lemmas.specs.Happens.{HoldsNone}
 use Rattle.core_lemmas.proofs.Words.{same_some, lists_push, lists_without, lists_same}
 use Rattle.core_lemmas.proofs.Calls.{claims_put, phased, lent_phase, frames_phase, dies_call, in_flight_call, gathered_call, queued_call, is_queued_put, is_queued_here}
 

@@ -1,14 +1,14 @@
 //! Laws: each is the contract of an empty function.
 ghost use Rattle.std.specs.Prelude.{ℕ, Bool, List};
 ghost use Rattle.dispatcher.specs.declared.side.Side.{Side};
-ghost use Rattle.core_state.specs.declared.actor.Actor.{Actor};
-ghost use Rattle.core_state.specs.declared.event.Purpose.{Purpose};
-ghost use Rattle.plain_files.specs.declared.calls.Request.{Request};
-ghost use Rattle.core_state.specs.declared.event.Event.{Event};
-ghost use Rattle.core_state.specs.declared.event.Event.TheVariants.{Enter, Leave, Skip, Begin, DieOut, Submit, Fetch, Report, FlushOut, MetaIn};
-ghost use Rattle.core_state.specs.State.{Core};
-ghost use Rattle.core_state.specs.Coherent.{Coherent};
-ghost use Rattle.core_state.specs.Happens.{Happens};
+ghost use Rattle.core_lemmas.specs.Actor.{Actor};
+ghost use Rattle.core_lemmas.specs.Purpose.{Purpose};
+ghost use Rattle.core_lemmas.specs.Request.{Request};
+ghost use Rattle.core_lemmas.specs.Event.{Event};
+ghost use Rattle.core_lemmas.specs.Event.TheVariants.{Enter, Leave, Skip, Begin, DieOut, Submit, Fetch, Report, FlushOut, MetaIn};
+ghost use Rattle.core_lemmas.specs.State.{Core};
+ghost use Rattle.core_lemmas.specs.Coherent.{Coherent};
+ghost use Rattle.core_lemmas.specs.Happens.{Happens};
 ghost use Rattle.core_lanes.specs.Keeps.{Keeps};
 
 /// A lane that enters keeps a core coherent.

@@ -7,7 +7,7 @@ use Rattle.dispatcher.specs.declared.side.Side.TheVariants.{Host, Drive}
 use Rattle.index_lists.specs.Words.{put, one_if}
 use Rattle.index_lists.proofs.Counts.{same_or_not}
 use Rattle.index_lists.proofs.Puts.{put-same, put-other, put-each, put-some}
-use Rattle.plain_files.specs.Plain.{State}
+use Rattle.core_state.specs.Plain.{State}
 use Rattle.core_state.specs.declared.actor.Actor.{Actor}
 use Rattle.core_state.specs.declared.actor.Actor.TheVariants.{Lane, Worker, Flusher, Closer}
 use Rattle.core_state.specs.Words.{Lists}

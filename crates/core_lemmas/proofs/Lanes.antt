@@ -4,7 +4,7 @@ use Rattle.std.specs.Prelude.{◌≢◌, ◌⊎◌}
 use Rattle.index_lists.specs.Words.{put}
 use Rattle.index_lists.proofs.Counts.{same_or_not}
 use Rattle.index_lists.proofs.Puts.{put-same, put-other, put-each}
-use Rattle.plain_files.specs.Plain.{State}
+use Rattle.core_state.specs.Plain.{State}
 use Rattle.core_state.specs.declared.actor.Actor.{Actor}
 use Rattle.core_state.specs.declared.actor.Actor.TheVariants.{Lane, Worker, Flusher, Closer}
 use Rattle.core_state.specs.State.{Page, Shape, Block, Places, LaneState, Inside, Queued, Flight, Errand, ToFill, ToFlush, ToMeta, Out, DieState}

@@ -7,9 +7,9 @@ use Rattle.std.specs.List.{Contains, find}
 use Rattle.page_base.specs.Bytes.{Pages}
 use Rattle.index_lists.specs.Words.{count}
 use Rattle.index_lists.proofs.Counts.{same_or_not, count-nil, count-append, count-here, count-there, short}
-use Rattle.plain_files.specs.declared.calls.Call.{Call}
-use Rattle.plain_files.specs.declared.calls.Call.TheVariants.{Create, OpenFile, Stat, Remove, Read, Write, Append, Trunc, Seal, Load, Unload, Readl, Writel, Sync}
-use Rattle.plain_files.specs.Plain.{State}
+use Rattle.core_state.specs.Call.{Call}
+use Rattle.core_state.specs.Call.TheVariants.{Create, OpenFile, Stat, Remove, Read, Write, Append, Trunc, Seal, Load, Unload, Readl, Writel, Sync}
+use Rattle.core_state.specs.Plain.{State}
 use Rattle.core_state.specs.Words.{listed_to}
 use Rattle.core_state.specs.State.{Shape, Block, File, Names, Places, Mode, Shared, Exclusive, Reach, Claim, Flight}
 use Rattle.core_state.specs.Contents.{span_block}

@@ -2,11 +2,11 @@
 use Rattle.std.proofs.Common.{◌≡◌, ℕ, Bool, true, false, List, [], ◌∷◌, Option, Some, None, refl, sym, ap, ◌∙◌, ⊎_elim}
 use Rattle.std.specs.Prelude.{◌⊎◌, map, option_map, is_some, if◌then◌else◌, bytes_eq}
 use Rattle.std.specs.List.{find}
-use Rattle.plain_files.specs.declared.calls.Call.{Call}
-use Rattle.plain_files.specs.declared.calls.Call.TheVariants.{Create, OpenFile, Stat, Remove, Read, Write, Append, Trunc, Seal, Load, Unload, Readl, Writel, Sync}
-use Rattle.plain_files.specs.declared.calls.PlainFile.{PlainFile}
-use Rattle.plain_files.specs.Plain as plain_files
-use Rattle.plain_files.specs.Plain.{State, file_of, function_of, early}
+use Rattle.core_state.specs.Call.{Call}
+use Rattle.core_state.specs.Call.TheVariants.{Create, OpenFile, Stat, Remove, Read, Write, Append, Trunc, Seal, Load, Unload, Readl, Writel, Sync}
+use Rattle.core_state.specs.PlainFile.{PlainFile}
+use Rattle.core_state.specs.Plain as plain_files
+use Rattle.core_state.specs.Plain.{State, file_of, function_of, early}
 use Rattle.core_state.specs.State.{Page, Shape, Function, Names, Places}
 use Rattle.core_state.specs.Reach.{is_data, is_sync, file_word, function_word, file_by, function_by}
 use Rattle.core_state.specs.PlainOf.{plain_file, plain_function, plain_of, outcome_of}

@@ -3,24 +3,24 @@ use Rattle.std.proofs.Common.{◌≡◌, ℕ, ◌+◌, ◌<◌, ◌≤◌, Bool,
 use Rattle.std.specs.Prelude.{◌⊎◌, ◌&&◌, not, is_some, if◌then◌else◌}
 use Rattle.dispatcher.specs.declared.side.Side.{Side}
 use Rattle.dispatcher.specs.declared.side.Side.TheVariants.{Host, Drive}
-use Rattle.coherence.specs.Paired.{by_side, other}
+use Rattle.core_lanes.specs.Paired.{by_side, other}
 use Rattle.index_lists.specs.Words.{put, count, one_if, last}
 use Rattle.index_lists.proofs.Counts.{length-last}
 use Rattle.index_lists.proofs.Puts.{put-same, put-each}
-use Rattle.core_state.specs.declared.actor.Actor.{Actor}
-use Rattle.core_state.specs.Words.{or_else, Lists}
-use Rattle.core_state.specs.State.{Page, Block, Mode, Shared, Exclusive, Frame, NoFrame, Reserved, OnLoan, Flight, Core}
-use Rattle.core_state.specs.Contents.{copy_at, InNeitherCache, IsAway, IsBlank, content, contents, page_of, span_block, has_copy, is_unclean}
-use Rattle.core_state.specs.Sound.{HasCopies, IsInHand}
-use Rattle.core_state.specs.Frames.{weight, is_side, used, HasFrame, HasFrameFor}
-use Rattle.core_state.specs.Dies.{owner}
-use Rattle.core_state.specs.Coherent.{Coherent}
-use Rattle.core_state.specs.PageEvents.{with_gathered, read_block, is_only_there, copied_from, copied_of, copied, HasPageAt, MayCopy}
-use Rattle.core_state.specs.Happens.{HoldsNone}
-use Rattle.core_lemmas.proofs.Words.{same_some, lists_last, lists_same}
-use Rattle.core_lemmas.proofs.Calls.{loans_call}
-use Rattle.core_lemmas.proofs.Blocks.{lent_put, placed_not_free, dies_put}
-use Rattle.core_lemmas.proofs.Gathering.{weight_at, used_framed, has_frames_both, pages_more}
+use Rattle.core_lanes.specs.Actor.{Actor}
+use Rattle.core_lanes.specs.Words.{or_else, Lists}
+use Rattle.core_lanes.specs.State.{Page, Block, Mode, Shared, Exclusive, Frame, NoFrame, Reserved, OnLoan, Flight, Core}
+use Rattle.core_lanes.specs.Contents.{copy_at, InNeitherCache, IsAway, IsBlank, content, contents, page_of, span_block, has_copy, is_unclean}
+use Rattle.core_lanes.specs.Sound.{HasCopies, IsInHand}
+use Rattle.core_lanes.specs.Frames.{weight, is_side, used, HasFrame, HasFrameFor}
+use Rattle.core_lanes.specs.Dies.{owner}
+use Rattle.core_lanes.specs.Coherent.{Coherent}
+use Rattle.core_lanes.specs.PageEvents.{with_gathered, read_block, is_only_there, copied_from, copied_of, copied, HasPageAt, MayCopy}
+use Rattle.core_lanes.specs.Happens.{HoldsNone}
+use Rattle.core_lanes.proofs.Words.{same_some, lists_last, lists_same}
+use Rattle.core_lanes.proofs.Calls.{loans_call}
+use Rattle.core_lanes.proofs.Blocks.{lent_put, placed_not_free, dies_put}
+use Rattle.core_lanes.proofs.Gathering.{weight_at, used_framed, has_frames_both, pages_more}
 use Rattle.core_lanes.proofs.Phases.{flight_is}
 use Rattle.core_pages.proofs.Idle.{test_put, test_here, test_same}
 use Rattle.core_pages.proofs.Gathering.{gather_keeps, GainsCopies, gained, is_reserved, frame_at}

@@ -3,25 +3,25 @@ use Rattle.std.proofs.Common.{◌≡◌, ℕ, ◌+◌, ◌<◌, ◌≤◌, Bool,
 use Rattle.std.specs.Prelude.{◌≢◌, not, is_some, if◌then◌else◌}
 use Rattle.dispatcher.specs.declared.side.Side.{Side}
 use Rattle.dispatcher.specs.declared.side.Side.TheVariants.{Host, Drive}
-use Rattle.coherence.specs.Paired.{by_side}
+use Rattle.core_lanes.specs.Paired.{by_side}
 use Rattle.index_lists.specs.Words.{put, last}
 use Rattle.index_lists.proofs.Counts.{same_or_not, length-last}
 use Rattle.index_lists.proofs.Puts.{put-same, put-other, put-each}
-use Rattle.core_state.specs.declared.actor.Actor.{Actor}
-use Rattle.core_state.specs.State.{Page, Block, Mode, Shared, Exclusive, Frame, NoFrame, Reserved, OnLoan, Queued, Flight, ToFill, Out, DieState, Core}
-use Rattle.core_state.specs.Contents.{copy_at, with_copy, IsAway, IsBlank, content, span_block, is_unclean, die_of}
-use Rattle.core_state.specs.Reach.{by_mode}
-use Rattle.core_state.specs.Sound.{HasCopies}
-use Rattle.core_state.specs.Frames.{weight, is_side, used, HasFrame, HasFrameFor, AreOrdered}
-use Rattle.core_state.specs.Dies.{owner, IsFill}
-use Rattle.core_state.specs.Coherent.{Coherent}
-use Rattle.core_state.specs.PageEvents.{last_at, with_gathered}
-use Rattle.core_state.specs.DieEvents.{home_filled, marked_if, filled_of, filled_by, filled, MayFillIn}
-use Rattle.core_lemmas.proofs.Words.{nothing, same_some, lists_last, lists_same}
-use Rattle.core_lemmas.proofs.Calls.{loans_call}
-use Rattle.core_lemmas.proofs.Dies.{home_free}
-use Rattle.core_lemmas.proofs.Blocks.{lent_put, placed_not_free}
-use Rattle.core_lemmas.proofs.Gathering.{weight_at, used_framed, has_frames_both, dies_at_home}
+use Rattle.core_lanes.specs.Actor.{Actor}
+use Rattle.core_lanes.specs.State.{Page, Block, Mode, Shared, Exclusive, Frame, NoFrame, Reserved, OnLoan, Queued, Flight, ToFill, Out, DieState, Core}
+use Rattle.core_lanes.specs.Contents.{copy_at, with_copy, IsAway, IsBlank, content, span_block, is_unclean, die_of}
+use Rattle.core_lanes.specs.Reach.{by_mode}
+use Rattle.core_lanes.specs.Sound.{HasCopies}
+use Rattle.core_lanes.specs.Frames.{weight, is_side, used, HasFrame, HasFrameFor, AreOrdered}
+use Rattle.core_lanes.specs.Dies.{owner, IsFill}
+use Rattle.core_lanes.specs.Coherent.{Coherent}
+use Rattle.core_lanes.specs.PageEvents.{last_at, with_gathered}
+use Rattle.core_lanes.specs.DieEvents.{home_filled, marked_if, filled_of, filled_by, filled, MayFillIn}
+use Rattle.core_lanes.proofs.Words.{nothing, same_some, lists_last, lists_same}
+use Rattle.core_lanes.proofs.Calls.{loans_call}
+use Rattle.core_lanes.proofs.Dies.{home_free}
+use Rattle.core_lanes.proofs.Blocks.{lent_put, placed_not_free}
+use Rattle.core_lanes.proofs.Gathering.{weight_at, used_framed, has_frames_both, dies_at_home}
 use Rattle.core_lanes.proofs.Metas.{home_keeps, marked_keeps}
 use Rattle.core_lanes.proofs.Phases.{flight_is}
 use Rattle.core_pages.proofs.Idle.{test_put, test_here, test_same}

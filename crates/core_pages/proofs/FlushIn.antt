@@ -3,25 +3,25 @@ use Rattle.std.proofs.Common.{◌≡◌, ℕ, ◌<◌, Bool, true, false, List, 
 use Rattle.std.specs.Prelude.{◌≢◌, ◌&&◌, ◌||◌, ◌==◌, not, is_some}
 use Rattle.std.proofs.lemmas.Bool.Decides.{nat_tests}
 use Rattle.dispatcher.specs.declared.side.Side.{Side}
-use Rattle.coherence.specs.Paired.{by_side}
+use Rattle.core_lanes.specs.Paired.{by_side}
 use Rattle.index_lists.specs.Words.{put, without}
 use Rattle.index_lists.proofs.Puts.{put-same}
-use Rattle.core_state.specs.declared.actor.Actor.{Actor}
-use Rattle.core_state.specs.declared.actor.Actor.TheVariants.{Lane, Worker, Flusher, Closer}
-use Rattle.core_state.specs.Words.{Lists}
-use Rattle.core_state.specs.State.{Page, Loan, Block, Mode, Frame, Queued, Flight, ToFlush, Out, DieState, Core}
-use Rattle.core_state.specs.Contents.{IsBlank, copy_at, content, is_unclean, die_of}
-use Rattle.core_state.specs.PlainOf.{plain_of}
-use Rattle.core_state.specs.Sound.{HasCopies, IsKept, IsInHand}
-use Rattle.core_state.specs.Placed.{Tails}
-use Rattle.core_state.specs.InFlight.{InFlight}
-use Rattle.core_state.specs.Frames.{HasFrame}
-use Rattle.core_state.specs.Dies.{IsFlush, MayFlush, Gathered}
-use Rattle.core_state.specs.Coherent.{Coherent}
-use Rattle.core_state.specs.DieEvents.{written_page, home_written, marked_by, IsLeft, flushed_block, flushed_of, flushed_by, flushed, MayFlushIn}
-use Rattle.core_lemmas.proofs.Words.{nothing, same_some, lists_without, lists_same}
-use Rattle.core_lemmas.proofs.Blocks.{each_block, contents_put, placed_put, lent_put, has_frames_put}
-use Rattle.core_lemmas.proofs.Gathering.{dies_at_home}
+use Rattle.core_lanes.specs.Actor.{Actor}
+use Rattle.core_lanes.specs.Actor.TheVariants.{Lane, Worker, Flusher, Closer}
+use Rattle.core_lanes.specs.Words.{Lists}
+use Rattle.core_lanes.specs.State.{Page, Loan, Block, Mode, Frame, Queued, Flight, ToFlush, Out, DieState, Core}
+use Rattle.core_lanes.specs.Contents.{IsBlank, copy_at, content, is_unclean, die_of}
+use Rattle.core_lanes.specs.PlainOf.{plain_of}
+use Rattle.core_lanes.specs.Sound.{HasCopies, IsKept, IsInHand}
+use Rattle.core_lanes.specs.Placed.{Tails}
+use Rattle.core_lanes.specs.InFlight.{InFlight}
+use Rattle.core_lanes.specs.Frames.{HasFrame}
+use Rattle.core_lanes.specs.Dies.{IsFlush, MayFlush, Gathered}
+use Rattle.core_lanes.specs.Coherent.{Coherent}
+use Rattle.core_lanes.specs.DieEvents.{written_page, home_written, marked_by, IsLeft, flushed_block, flushed_of, flushed_by, flushed, MayFlushIn}
+use Rattle.core_lanes.proofs.Words.{nothing, same_some, lists_without, lists_same}
+use Rattle.core_lanes.proofs.Blocks.{each_block, contents_put, placed_put, lent_put, has_frames_put}
+use Rattle.core_lanes.proofs.Gathering.{dies_at_home}
 use Rattle.core_lanes.proofs.Metas.{home_keeps, marked_keeps, sync_held}
 use Rattle.core_pages.proofs.Idle.{test_put, test_here, test_same}
 

@@ -5,19 +5,19 @@ use Rattle.dispatcher.specs.declared.side.Side.{Side}
 use Rattle.dispatcher.specs.declared.side.Side.TheVariants.{Host, Drive}
 use Rattle.index_lists.specs.Words.{put}
 use Rattle.index_lists.proofs.Puts.{put-same}
-use Rattle.core_state.specs.declared.actor.Actor.{Actor}
-use Rattle.core_state.specs.State.{Page, Block, Mode, Shared, Claim, Frame, NoFrame, Reserved, OnLoan, Phase, Held, Queued, Running, Reported, Flight, Out, Core}
-use Rattle.core_state.specs.Contents.{copy_at, IsBlank, contents, page_of, span_block}
-use Rattle.core_state.specs.PlainOf.{plain, plain_of}
-use Rattle.core_state.specs.Sound.{HasCopies, IsKept, IsInHand}
-use Rattle.core_state.specs.Placed.{IsFree, Tails}
-use Rattle.core_state.specs.InFlight.{Lent, Locked, InFlight}
-use Rattle.core_state.specs.Frames.{used, HasFrame, HasFrameFor, AreOrdered}
-use Rattle.core_state.specs.Dies.{owner, Dies, IsResult, Gathered}
-use Rattle.core_state.specs.Coherent.{Coherent}
-use Rattle.core_lemmas.proofs.Calls.{claims_put, dies_call, in_flight_call, gathered_call, queued_same}
-use Rattle.core_lemmas.proofs.Blocks.{KeepsRest, each_block, contents_put, kept_rest, placed_put, has_frames_put}
-use Rattle.core_lemmas.proofs.Words.{same_some}
+use Rattle.core_lanes.specs.Actor.{Actor}
+use Rattle.core_lanes.specs.State.{Page, Block, Mode, Shared, Claim, Frame, NoFrame, Reserved, OnLoan, Phase, Held, Queued, Running, Reported, Flight, Out, Core}
+use Rattle.core_lanes.specs.Contents.{copy_at, IsBlank, contents, page_of, span_block}
+use Rattle.core_lanes.specs.PlainOf.{plain, plain_of}
+use Rattle.core_lanes.specs.Sound.{HasCopies, IsKept, IsInHand}
+use Rattle.core_lanes.specs.Placed.{IsFree, Tails}
+use Rattle.core_lanes.specs.InFlight.{Lent, Locked, InFlight}
+use Rattle.core_lanes.specs.Frames.{used, HasFrame, HasFrameFor, AreOrdered}
+use Rattle.core_lanes.specs.Dies.{owner, Dies, IsResult, Gathered}
+use Rattle.core_lanes.specs.Coherent.{Coherent}
+use Rattle.core_lanes.proofs.Calls.{claims_put, dies_call, in_flight_call, gathered_call, queued_same}
+use Rattle.core_lanes.proofs.Blocks.{KeepsRest, each_block, contents_put, kept_rest, placed_put, has_frames_put}
+use Rattle.core_lanes.proofs.Words.{same_some}
 
 -- a call that somebody owns isn't queued
 pub owned_waits : (lane : ℕ) (phase : Phase) (actor : Actor) → owner lane phase ≡ Some actor → phase ≢ Queued

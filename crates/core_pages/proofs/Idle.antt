@@ -5,24 +5,24 @@ use Rattle.std.proofs.lemmas.Bool.Decides.{nat_tests}
 use Rattle.std.specs.List.{find}
 use Rattle.dispatcher.specs.declared.side.Side.{Side}
 use Rattle.dispatcher.specs.declared.side.Side.TheVariants.{Host, Drive}
-use Rattle.coherence.specs.Paired.{by_side, other}
+use Rattle.core_lanes.specs.Paired.{by_side, other}
 use Rattle.index_lists.specs.Words.{put, without, last}
 use Rattle.index_lists.proofs.Counts.{same_or_not, length-without, length-last}
 use Rattle.index_lists.proofs.Puts.{put-same, put-other}
-use Rattle.core_state.specs.Words.{is_at, any_to, Lists}
-use Rattle.core_state.specs.State.{Page, Shape, Loan, Block, Places, Flight, Core}
-use Rattle.core_state.specs.Contents.{InNeitherCache, IsAway, copy_at, with_copy, content, has_copy, is_unclean, span_block}
-use Rattle.core_state.specs.PlainOf.{plain_of}
-use Rattle.core_state.specs.Sound.{HasCopies, IsKept, IsInHand}
-use Rattle.core_state.specs.Placed.{Tails}
-use Rattle.core_state.specs.InFlight.{InFlight}
-use Rattle.core_state.specs.Frames.{used, AreOrdered}
-use Rattle.core_state.specs.Dies.{Gathered}
-use Rattle.core_state.specs.Coherent.{Coherent}
-use Rattle.core_state.specs.PageEvents.{spans, in_span, is_spare, is_demotable, order_at, MayEvict, MayDemote, evicted, demoted}
-use Rattle.core_lemmas.proofs.Words.{lists_last, lists_without, lists_same}
-use Rattle.core_lemmas.proofs.Finds.{found_passes, found_listed}
-use Rattle.core_lemmas.proofs.Blocks.{KeepsRest, each_block, contents_put, kept_rest, placed_put, lent_put, has_frames_put, dies_put}
+use Rattle.core_lanes.specs.Words.{is_at, any_to, Lists}
+use Rattle.core_lanes.specs.State.{Page, Shape, Loan, Block, Places, Flight, Core}
+use Rattle.core_lanes.specs.Contents.{InNeitherCache, IsAway, copy_at, with_copy, content, has_copy, is_unclean, span_block}
+use Rattle.core_lanes.specs.PlainOf.{plain_of}
+use Rattle.core_lanes.specs.Sound.{HasCopies, IsKept, IsInHand}
+use Rattle.core_lanes.specs.Placed.{Tails}
+use Rattle.core_lanes.specs.InFlight.{InFlight}
+use Rattle.core_lanes.specs.Frames.{used, AreOrdered}
+use Rattle.core_lanes.specs.Dies.{Gathered}
+use Rattle.core_lanes.specs.Coherent.{Coherent}
+use Rattle.core_lanes.specs.PageEvents.{spans, in_span, is_spare, is_demotable, order_at, MayEvict, MayDemote, evicted, demoted}
+use Rattle.core_lanes.proofs.Words.{lists_last, lists_without, lists_same}
+use Rattle.core_lanes.proofs.Finds.{found_passes, found_listed}
+use Rattle.core_lanes.proofs.Blocks.{KeepsRest, each_block, contents_put, kept_rest, placed_put, lent_put, has_frames_put, dies_put}
 
 -- ---- tests
 

@@ -6,22 +6,22 @@ use Rattle.dispatcher.specs.declared.side.Side.TheVariants.{Host, Drive}
 use Rattle.index_lists.specs.Words.{put}
 use Rattle.index_lists.proofs.Counts.{same_or_not}
 use Rattle.index_lists.proofs.Puts.{put-same, put-other, put-each, put-some}
-use Rattle.core_state.specs.declared.actor.Actor.{Actor}
-use Rattle.core_state.specs.State.{Page, Loan, Block, Mode, Shared, Exclusive, Claim, Frame, NoFrame, OnLoan, Flight, Out, Core}
-use Rattle.core_state.specs.Contents.{InNeitherCache, content, contents, page_of, lent_page, span_block}
-use Rattle.coherence.specs.Changes.{page_or}
+use Rattle.core_lanes.specs.Actor.{Actor}
+use Rattle.core_lanes.specs.State.{Page, Loan, Block, Mode, Shared, Exclusive, Claim, Frame, NoFrame, OnLoan, Flight, Out, Core}
+use Rattle.core_lanes.specs.Contents.{InNeitherCache, content, contents, page_of, lent_page, span_block}
+use Rattle.core_lanes.specs.Changes.{page_or}
 use Rattle.page_base.specs.Bytes.{zero_page}
-use Rattle.core_state.specs.PlainOf.{plain}
-use Rattle.core_state.specs.Sound.{HasCopies}
-use Rattle.core_state.specs.InFlight.{IsLentTo, IsLoanOf}
-use Rattle.core_state.specs.Frames.{used, HasFrame, HasFrameFor, AreOrdered}
-use Rattle.core_state.specs.Dies.{owner, Dies}
-use Rattle.core_state.specs.Coherent.{Coherent}
-use Rattle.core_state.specs.PageEvents.{with_gathered}
-use Rattle.core_lemmas.proofs.Words.{nothing, same_some}
-use Rattle.core_lemmas.proofs.Blocks.{each_block, placed_not_free}
-use Rattle.core_lemmas.proofs.Gathering.{has_frames_both, pages_more}
-use Rattle.core_lemmas.proofs.Spans.{only_span}
+use Rattle.core_lanes.specs.PlainOf.{plain}
+use Rattle.core_lanes.specs.Sound.{HasCopies}
+use Rattle.core_lanes.specs.InFlight.{IsLentTo, IsLoanOf}
+use Rattle.core_lanes.specs.Frames.{used, HasFrame, HasFrameFor, AreOrdered}
+use Rattle.core_lanes.specs.Dies.{owner, Dies}
+use Rattle.core_lanes.specs.Coherent.{Coherent}
+use Rattle.core_lanes.specs.PageEvents.{with_gathered}
+use Rattle.core_lanes.proofs.Words.{nothing, same_some}
+use Rattle.core_lanes.proofs.Blocks.{each_block, placed_not_free}
+use Rattle.core_lanes.proofs.Gathering.{has_frames_both, pages_more}
+use Rattle.core_lanes.proofs.Spans.{only_span}
 use Rattle.core_pages.proofs.Gathering.{gather_keeps}
 
 -- the page at place i of the span of this exclusive call, whose block is b, is still to be gathered, and is lent to nobody

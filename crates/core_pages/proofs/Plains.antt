@@ -3,22 +3,22 @@ use Rattle.std.proofs.Common.{◌≡◌, ℕ, Bool, true, false, Option, Some, N
 use Rattle.std.specs.Prelude.{◌&&◌, ◌==◌}
 use Rattle.dispatcher.specs.declared.side.Side.{Side}
 use Rattle.index_lists.specs.Words.{put}
-use Rattle.core_state.specs.declared.actor.Actor.{Actor}
-use Rattle.core_state.specs.declared.event.Event.{Event}
-use Rattle.core_state.specs.declared.event.Event.TheVariants.{Enter, Leave, Quick, Skip, Begin, Copy, Take, DieOut, FillIn, Submit, Fetch, Report, End, Evict, Demote, FlushOut, FlushIn, MetaIn}
-use Rattle.core_state.specs.declared.event.Purpose.TheVariants.{Fill, Meta}
-use Rattle.core_state.specs.Words.{changed_at}
-use Rattle.core_state.specs.State.{Page, Loan, Block, Mode, Shared, Exclusive, Flight, Errand, ToFill, ToFlush, ToMeta, Out, Core}
-use Rattle.core_state.specs.Contents.{with_copy, content, contents, span_block, IsAway}
-use Rattle.core_state.specs.Reach.{by_mode}
-use Rattle.core_state.specs.PlainOf.{plain, plain_of}
-use Rattle.core_state.specs.Dies.{IsFill}
-use Rattle.core_state.specs.Coherent.{Coherent}
-use Rattle.core_state.specs.PageEvents.{flight_at, read_block, lent_block, is_spare, is_demotable, order_at, MayEvict, MayDemote, evicted, demoted}
-use Rattle.core_state.specs.DieEvents.{written_page, flushed_block, filled_block, filled_of, filled_by, filled, flushed_by, flushed, stored_on, stored_by, MayFillIn, MayFlushIn}
-use Rattle.core_state.specs.Happens.{Happens, after}
-use Rattle.core_lemmas.proofs.Blocks.{contents_put}
-use Rattle.core_lemmas.proofs.Finds.{found_passes}
+use Rattle.core_lanes.specs.Actor.{Actor}
+use Rattle.core_lanes.specs.Event.{Event}
+use Rattle.core_lanes.specs.Event.TheVariants.{Enter, Leave, Quick, Skip, Begin, Copy, Take, DieOut, FillIn, Submit, Fetch, Report, End, Evict, Demote, FlushOut, FlushIn, MetaIn}
+use Rattle.core_lanes.specs.Purpose.TheVariants.{Fill, Meta}
+use Rattle.core_lanes.specs.Words.{changed_at}
+use Rattle.core_lanes.specs.State.{Page, Loan, Block, Mode, Shared, Exclusive, Flight, Errand, ToFill, ToFlush, ToMeta, Out, Core}
+use Rattle.core_lanes.specs.Contents.{with_copy, content, contents, span_block, IsAway}
+use Rattle.core_lanes.specs.Reach.{by_mode}
+use Rattle.core_lanes.specs.PlainOf.{plain, plain_of}
+use Rattle.core_lanes.specs.Dies.{IsFill}
+use Rattle.core_lanes.specs.Coherent.{Coherent}
+use Rattle.core_lanes.specs.PageEvents.{flight_at, read_block, lent_block, is_spare, is_demotable, order_at, MayEvict, MayDemote, evicted, demoted}
+use Rattle.core_lanes.specs.DieEvents.{written_page, flushed_block, filled_block, filled_of, filled_by, filled, flushed_by, flushed, stored_on, stored_by, MayFillIn, MayFlushIn}
+use Rattle.core_lanes.specs.Happens.{Happens, after}
+use Rattle.core_lanes.proofs.Blocks.{contents_put}
+use Rattle.core_lanes.proofs.Finds.{found_passes}
 use Rattle.core_lanes.proofs.Phases.{flight_is}
 use Rattle.core_pages.specs.Inner.{answers_call}
 use Rattle.core_pages.proofs.Idle.{and_parts, evicted_content, moved_content, listed_at, none_is}

@@ -7,20 +7,20 @@ use Rattle.index_lists.specs.Words.{put, count, one_if, without}
 use Rattle.index_lists.proofs.Counts.{length-without, without-absent}
 use Rattle.index_lists.proofs.Puts.{put-other, put-each}
 use Rattle.page_base.specs.Bytes.{zero_page}
-use Rattle.coherence.specs.Changes.{page_or}
+use Rattle.core_lanes.specs.Changes.{page_or}
 use mathlib.Core.Path.{fun_ext}
-use Rattle.core_state.specs.declared.actor.Actor.{Actor}
-use Rattle.core_state.specs.State.{Page, Loan, Block, Exclusive, Frame, NoFrame, Reserved, OnLoan, Flight, Core}
-use Rattle.core_state.specs.Contents.{lent_page, copy_at, IsAway, IsBlank, content, contents, page_of, span_block, has_copy, is_unclean}
-use Rattle.core_state.specs.Frames.{weight, is_side, used, HasFrame, HasFrameFor}
-use Rattle.core_state.specs.Dies.{owner}
-use Rattle.core_state.specs.Coherent.{Coherent}
-use Rattle.core_state.specs.PageEvents.{with_gathered, lent_block, taken_from, taken_of, taken, HasPageOrNone, MayTake}
-use Rattle.core_state.specs.Happens.{HoldsNone}
-use Rattle.core_lemmas.proofs.Words.{nothing, same_some, lists_without}
-use Rattle.core_lemmas.proofs.Calls.{loans_call, has_frames_call}
-use Rattle.core_lemmas.proofs.Blocks.{each_block, dies_put}
-use Rattle.core_lemmas.proofs.Gathering.{weight_at, used_framed, pages_more}
+use Rattle.core_lanes.specs.Actor.{Actor}
+use Rattle.core_lanes.specs.State.{Page, Loan, Block, Exclusive, Frame, NoFrame, Reserved, OnLoan, Flight, Core}
+use Rattle.core_lanes.specs.Contents.{lent_page, copy_at, IsAway, IsBlank, content, contents, page_of, span_block, has_copy, is_unclean}
+use Rattle.core_lanes.specs.Frames.{weight, is_side, used, HasFrame, HasFrameFor}
+use Rattle.core_lanes.specs.Dies.{owner}
+use Rattle.core_lanes.specs.Coherent.{Coherent}
+use Rattle.core_lanes.specs.PageEvents.{with_gathered, lent_block, taken_from, taken_of, taken, HasPageOrNone, MayTake}
+use Rattle.core_lanes.specs.Happens.{HoldsNone}
+use Rattle.core_lanes.proofs.Words.{nothing, same_some, lists_without}
+use Rattle.core_lanes.proofs.Calls.{loans_call, has_frames_call}
+use Rattle.core_lanes.proofs.Blocks.{each_block, dies_put}
+use Rattle.core_lanes.proofs.Gathering.{weight_at, used_framed, pages_more}
 use Rattle.core_lanes.proofs.Outward.{not_lent}
 use Rattle.core_lanes.proofs.Phases.{flight_is}
 use Rattle.core_pages.proofs.Idle.{test_put, test_here}

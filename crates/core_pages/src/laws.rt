@@ -1,13 +1,13 @@
 //! Laws: each is the contract of an empty function.
 ghost use Rattle.std.specs.Prelude.{◌≡◌, ℕ, Bool, false, List};
 ghost use Rattle.dispatcher.specs.declared.side.Side.{Side};
-ghost use Rattle.core_state.specs.declared.actor.Actor.{Actor};
-ghost use Rattle.core_state.specs.declared.event.Event.TheVariants.{Copy, Take, FillIn, Evict, Demote, FlushIn};
-ghost use Rattle.core_state.specs.declared.event.Event.{Event};
-ghost use Rattle.core_state.specs.State.{Core};
-ghost use Rattle.core_state.specs.PlainOf.{plain};
-ghost use Rattle.core_state.specs.Coherent.{Coherent};
-ghost use Rattle.core_state.specs.Happens.{Happens};
+ghost use Rattle.core_lanes.specs.Actor.{Actor};
+ghost use Rattle.core_lanes.specs.Event.TheVariants.{Copy, Take, FillIn, Evict, Demote, FlushIn};
+ghost use Rattle.core_lanes.specs.Event.{Event};
+ghost use Rattle.core_lanes.specs.State.{Core};
+ghost use Rattle.core_lanes.specs.PlainOf.{plain};
+ghost use Rattle.core_lanes.specs.Coherent.{Coherent};
+ghost use Rattle.core_lanes.specs.Happens.{Happens};
 ghost use Rattle.core_lanes.specs.Keeps.{Keeps};
 ghost use Rattle.core_pages.specs.Inner.{answers_call};
 

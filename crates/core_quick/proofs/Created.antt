@@ -7,19 +7,19 @@ use Rattle.std.proofs.lemmas.Slice.Eq.{bytes_eq-Decides}
 use Rattle.std.proofs.lemmas.Bool.Decides.{nat_tests}
 use Rattle.page_base.specs.Bytes.{Pages, zero_page}
 use Rattle.sbpf_insn.specs.declared.insn.Insn.{Insn}
-use Rattle.plain_files.specs.Lists.{without}
-use Rattle.plain_files.specs.Plain as plain_files
-use Rattle.plain_files.specs.Plain.{State, file_of, function_of, is_file, is_function, with_file}
-use Rattle.core_state.specs.Words.{EachBehind}
-use Rattle.core_state.specs.State.{Page, Shape, File, Function, Names, Places, Claim, Core}
-use Rattle.core_state.specs.Contents.{contents, page_of}
-use Rattle.core_state.specs.Reach.{function_word, file_by, word_is}
-use Rattle.core_state.specs.PlainOf.{plain_file, plain_function, plain, file_like, function_like, names_like}
-use Rattle.core_state.specs.InFlight.{claims}
-use Rattle.core_state.specs.Placed.{AreNamed, HavePlaces, Tails}
-use Rattle.core_state.specs.Coherent.{Coherent}
-use Rattle.core_state.specs.LaneEvents.{IsUnused}
-use Rattle.core_lemmas.proofs.Views.{file_seen, is_some_map}
+use Rattle.core_lanes.specs.Lists.{without}
+use Rattle.core_lanes.specs.Plain as plain_files
+use Rattle.core_lanes.specs.Plain.{State, file_of, function_of, is_file, is_function, with_file}
+use Rattle.core_lanes.specs.Words.{EachBehind}
+use Rattle.core_lanes.specs.State.{Page, Shape, File, Function, Names, Places, Claim, Core}
+use Rattle.core_lanes.specs.Contents.{contents, page_of}
+use Rattle.core_lanes.specs.Reach.{function_word, file_by, word_is}
+use Rattle.core_lanes.specs.PlainOf.{plain_file, plain_function, plain, file_like, function_like, names_like}
+use Rattle.core_lanes.specs.InFlight.{claims}
+use Rattle.core_lanes.specs.Placed.{AreNamed, HavePlaces, Tails}
+use Rattle.core_lanes.specs.Coherent.{Coherent}
+use Rattle.core_lanes.specs.LaneEvents.{IsUnused}
+use Rattle.core_lanes.proofs.Views.{file_seen, is_some_map}
 use Rattle.core_quick.proofs.Seen.{files_seen, renamed_keeps}
 use Rattle.core_quick.proofs.Named.{in_none, in_cases, in_append, in_there, in_here, found_some, find_append, find_without, each_map, each_push}
 use Rattle.core_quick.proofs.Renamed.{same_have, same_tails, same_below}

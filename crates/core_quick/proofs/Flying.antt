@@ -4,18 +4,18 @@ use Rattle.std.proofs.Common.{arith}
 use Rattle.std.specs.Prelude.{◌==◌, ◌&&◌, is_some, bytes_eq}
 use Rattle.std.proofs.lemmas.Slice.Eq.{bytes_eq-Decides}
 use Rattle.std.proofs.lemmas.Bool.Decides.{nat_tests}
-use Rattle.core_state.specs.LaneEvents.{IsUnheld}
-use Rattle.core_lemmas.proofs.Words.{same_some}
-use Rattle.plain_files.specs.declared.calls.Call.{Call}
-use Rattle.plain_files.specs.declared.calls.Call.TheVariants.{Readl, Writel, Sync}
-use Rattle.plain_files.specs.Plain.{file_of, function_of}
-use Rattle.core_state.specs.State.{File, Claim, Core}
-use Rattle.core_state.specs.Contents.{contents}
-use Rattle.core_state.specs.Reach.{is_data, is_lambda, is_sync, file_word, function_word, file_by, function_by, file_for, function_for, id_or_none}
-use Rattle.core_state.specs.PlainOf.{plain_file, plain_function, plain}
-use Rattle.core_state.specs.InFlight.{claims}
-use Rattle.core_state.specs.Coherent.{Coherent}
-use Rattle.core_lemmas.proofs.Views.{file_seen, function_seen, is_some_map}
+use Rattle.core_lanes.specs.LaneEvents.{IsUnheld}
+use Rattle.core_lanes.proofs.Words.{same_some}
+use Rattle.core_lanes.specs.Call.{Call}
+use Rattle.core_lanes.specs.Call.TheVariants.{Readl, Writel, Sync}
+use Rattle.core_lanes.specs.Plain.{file_of, function_of}
+use Rattle.core_lanes.specs.State.{File, Claim, Core}
+use Rattle.core_lanes.specs.Contents.{contents}
+use Rattle.core_lanes.specs.Reach.{is_data, is_lambda, is_sync, file_word, function_word, file_by, function_by, file_for, function_for, id_or_none}
+use Rattle.core_lanes.specs.PlainOf.{plain_file, plain_function, plain}
+use Rattle.core_lanes.specs.InFlight.{claims}
+use Rattle.core_lanes.specs.Coherent.{Coherent}
+use Rattle.core_lanes.proofs.Views.{file_seen, function_seen, is_some_map}
 
 -- the file that a call in flight is about
 pub record FliesOn (c : Core) (a : Claim) (name : List ℕ) : Type 0 where

@@ -11,3 +11,14 @@ pub mod Releasing
 pub mod Removed
 pub mod Moves
 pub mod Quick
+pub use Rattle.core_lanes.proofs.Outward
+pub use Rattle.core_lanes.proofs.Idle
+pub use Rattle.core_lanes.proofs.Phases
+pub use Rattle.core_lanes.proofs.Metas
+pub use Rattle.core_lanes.proofs.Spans
+pub use Rattle.core_lanes.proofs.Words
+pub use Rattle.core_lanes.proofs.Views
+pub use Rattle.core_lanes.proofs.Finds
+pub use Rattle.core_lanes.proofs.Calls
+pub use Rattle.core_lanes.proofs.Blocks
+pub use Rattle.core_lanes.proofs.Beginning

@@ -6,26 +6,26 @@ use mathlib.Core.Path.{fun_ext}
 use Rattle.name_table.specs.Name.{is_name}
 use Rattle.page_base.specs.Bytes.{Pages}
 use Rattle.sbpf_insn.specs.declared.insn.Insn.{Insn}
-use Rattle.plain_files.specs.declared.calls.Call.{Call}
-use Rattle.plain_files.specs.declared.calls.Call.TheVariants.{Create, OpenFile, Stat, Remove, Read, Write, Append, Trunc, Seal, Load, Unload, Readl, Writel, Sync}
-use Rattle.plain_files.specs.declared.calls.PlainFile.{PlainFile}
-use Rattle.plain_files.specs.declared.calls.Reply.{Reply}
-use Rattle.plain_files.specs.declared.calls.Reply.TheVariants.{Id, BadName, Exists, Full, FnFull, NoFile}
-use Rattle.plain_files.specs.Lists.{without}
-use Rattle.plain_files.specs.Steps.{◌>>=◌, refuse}
-use Rattle.plain_files.specs.Plain as plain_files
-use Rattle.plain_files.specs.Plain.{State, early, answer, answer_after, or_refusal, file_of, function_of, is_file, is_function, is_full, with_file, with_sealed, done_with_functions, accepted_code, has_no_file}
-use Rattle.core_state.specs.Words.{from_fn}
-use Rattle.core_state.specs.State.{Page, Shape, File, Names, Places, Core}
-use Rattle.core_state.specs.Contents.{contents}
-use Rattle.core_state.specs.Reach.{file_word, file_by, file_for}
-use Rattle.core_state.specs.PlainOf.{file_bytes, file_page, plain_file, plain_of, plain, bytes_by_id, file_like, names_like}
-use Rattle.core_state.specs.Coherent.{Coherent}
-use Rattle.core_state.specs.LaneEvents.{is_quick, quick}
-use Rattle.core_state.specs.Resizing.{new_places, renewed_in, follows}
-use Rattle.core_lemmas.proofs.Spans.{file_in}
-use Rattle.core_lemmas.proofs.Views.{file_seen}
-use Rattle.core_lemmas.proofs.Words.{same_some}
+use Rattle.core_lanes.specs.Call.{Call}
+use Rattle.core_lanes.specs.Call.TheVariants.{Create, OpenFile, Stat, Remove, Read, Write, Append, Trunc, Seal, Load, Unload, Readl, Writel, Sync}
+use Rattle.core_lanes.specs.PlainFile.{PlainFile}
+use Rattle.core_lanes.specs.Reply.{Reply}
+use Rattle.core_lanes.specs.Reply.TheVariants.{Id, BadName, Exists, Full, FnFull, NoFile}
+use Rattle.core_lanes.specs.Lists.{without}
+use Rattle.core_lanes.specs.Steps.{◌>>=◌, refuse}
+use Rattle.core_lanes.specs.Plain as plain_files
+use Rattle.core_lanes.specs.Plain.{State, early, answer, answer_after, or_refusal, file_of, function_of, is_file, is_function, is_full, with_file, with_sealed, done_with_functions, accepted_code, has_no_file}
+use Rattle.core_lanes.specs.Words.{from_fn}
+use Rattle.core_lanes.specs.State.{Page, Shape, File, Names, Places, Core}
+use Rattle.core_lanes.specs.Contents.{contents}
+use Rattle.core_lanes.specs.Reach.{file_word, file_by, file_for}
+use Rattle.core_lanes.specs.PlainOf.{file_bytes, file_page, plain_file, plain_of, plain, bytes_by_id, file_like, names_like}
+use Rattle.core_lanes.specs.Coherent.{Coherent}
+use Rattle.core_lanes.specs.LaneEvents.{is_quick, quick}
+use Rattle.core_lanes.specs.Resizing.{new_places, renewed_in, follows}
+use Rattle.core_lanes.proofs.Spans.{file_in}
+use Rattle.core_lanes.proofs.Views.{file_seen}
+use Rattle.core_lanes.proofs.Words.{same_some}
 use Rattle.core_quick.proofs.Seen.{length_bytes, like_seen}
 use Rattle.core_quick.proofs.Named.{in_none, in_cases, in_append, in_map, in_here, in_there}
 use Rattle.core_quick.proofs.Renamed.{len_by_id, follows_is}

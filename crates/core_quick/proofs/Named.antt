@@ -2,9 +2,9 @@
 use Rattle.std.proofs.Common.{◌≡◌, ℕ, zero, suc, ◌<◌, Bool, true, false, List, [], ◌∷◌, ◌++◌, length, Option, Some, refl, sym, ap, ◌∙◌, subst, inl, inr, ⊎_elim, arith}
 use Rattle.std.specs.Prelude.{◌⊎◌, map, is_some, if◌then◌else◌}
 use Rattle.std.specs.List.{Contains, find, slice_index_or}
-use Rattle.plain_files.specs.Lists.{with_changed, without}
-use Rattle.core_state.specs.Words.{EachBehind}
-use Rattle.core_state.specs.State.{File}
+use Rattle.core_lanes.specs.Lists.{with_changed, without}
+use Rattle.core_lanes.specs.Words.{EachBehind}
+use Rattle.core_lanes.specs.State.{File}
 
 -- ---- elements
 

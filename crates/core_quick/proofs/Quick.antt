@@ -5,22 +5,22 @@ use Rattle.std.specs.List.{Contains}
 use Rattle.name_table.specs.Name.{is_name}
 use Rattle.index_lists.specs.Words.{put}
 use Rattle.sbpf_insn.specs.declared.insn.Insn.{Insn}
-use Rattle.plain_files.specs.declared.calls.Call.{Call}
-use Rattle.plain_files.specs.declared.calls.Call.TheVariants.{Create, OpenFile, Stat, Remove, Read, Write, Append, Trunc, Seal, Load, Unload, Readl, Writel, Sync}
-use Rattle.plain_files.specs.declared.calls.Reply.{Reply}
-use Rattle.plain_files.specs.declared.calls.Reply.TheVariants.{Id, Done, BadName, Exists, Full}
-use Rattle.plain_files.specs.declared.calls.Request.{Request}
-use Rattle.plain_files.specs.Lists.{without}
-use Rattle.plain_files.specs.Steps.{◌>>=◌, refuse}
-use Rattle.plain_files.specs.Plain.{State, early, answer, answer_after, or_refusal, file_of, function_of, is_file, is_full, with_file, with_sealed, accepted_code}
-use Rattle.core_state.specs.State.{Inside, File, Core}
-use Rattle.core_state.specs.Reach.{file_word, file_by, file_for}
-use Rattle.core_state.specs.PlainOf.{plain, bytes_by_id}
-use Rattle.core_state.specs.InFlight.{claims}
-use Rattle.core_state.specs.Coherent.{Coherent}
-use Rattle.core_state.specs.LaneEvents.{replied, is_quick, is_unsealed, IsUnheld, IsUnused, IsClear, quick, MayQuick}
-use Rattle.core_state.specs.Resizing.{follows}
-use Rattle.core_lemmas.proofs.Spans.{file_in}
+use Rattle.core_lanes.specs.Call.{Call}
+use Rattle.core_lanes.specs.Call.TheVariants.{Create, OpenFile, Stat, Remove, Read, Write, Append, Trunc, Seal, Load, Unload, Readl, Writel, Sync}
+use Rattle.core_lanes.specs.Reply.{Reply}
+use Rattle.core_lanes.specs.Reply.TheVariants.{Id, Done, BadName, Exists, Full}
+use Rattle.core_lanes.specs.Request.{Request}
+use Rattle.core_lanes.specs.Lists.{without}
+use Rattle.core_lanes.specs.Steps.{◌>>=◌, refuse}
+use Rattle.core_lanes.specs.Plain.{State, early, answer, answer_after, or_refusal, file_of, function_of, is_file, is_full, with_file, with_sealed, accepted_code}
+use Rattle.core_lanes.specs.State.{Inside, File, Core}
+use Rattle.core_lanes.specs.Reach.{file_word, file_by, file_for}
+use Rattle.core_lanes.specs.PlainOf.{plain, bytes_by_id}
+use Rattle.core_lanes.specs.InFlight.{claims}
+use Rattle.core_lanes.specs.Coherent.{Coherent}
+use Rattle.core_lanes.specs.LaneEvents.{replied, is_quick, is_unsealed, IsUnheld, IsUnused, IsClear, quick, MayQuick}
+use Rattle.core_lanes.specs.Resizing.{follows}
+use Rattle.core_lanes.proofs.Spans.{file_in}
 use Rattle.core_lanes.proofs.Idle.{idle_keeps}
 use Rattle.core_quick.proofs.Renamed.{follows_is}
 use Rattle.core_quick.proofs.Unchanged.{unchanged_keeps}

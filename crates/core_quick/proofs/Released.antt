@@ -7,14 +7,14 @@ use Rattle.std.proofs.lemmas.Bool.Decides.{nat_tests}
 use Rattle.page_base.specs.Bytes.{zero_page}
 use Rattle.index_lists.specs.Words.{count, one_if, without}
 use Rattle.index_lists.proofs.Counts.{same_or_not, count-nil, count-here, count-there, count-append, count-without_same, count-without_other, count-without, length-without}
-use Rattle.core_state.specs.Words.{listed_to, is_in, without_all, Lists}
-use Rattle.core_state.specs.State.{Page, Block, Places}
-use Rattle.core_state.specs.Contents.{IsBlank, content}
-use Rattle.core_state.specs.Sound.{HasCopies, IsKept, IsInHand}
-use Rattle.core_state.specs.Dies.{IsFlush}
-use Rattle.core_state.specs.Resizing.{page_between, new_places, renewed, renewed_in}
-use Rattle.core_lemmas.proofs.Words.{nothing}
-use Rattle.core_lemmas.proofs.Spans.{same_option}
+use Rattle.core_lanes.specs.Words.{listed_to, is_in, without_all, Lists}
+use Rattle.core_lanes.specs.State.{Page, Block, Places}
+use Rattle.core_lanes.specs.Contents.{IsBlank, content}
+use Rattle.core_lanes.specs.Sound.{HasCopies, IsKept, IsInHand}
+use Rattle.core_lanes.specs.Dies.{IsFlush}
+use Rattle.core_lanes.specs.Resizing.{page_between, new_places, renewed, renewed_in}
+use Rattle.core_lanes.proofs.Words.{nothing}
+use Rattle.core_lanes.proofs.Spans.{same_option}
 
 -- ---- the list of the blocks that go
 

@@ -4,20 +4,20 @@ use Rattle.std.proofs.lemmas.Bool.Decides.{nat_tests}
 use Rattle.std.specs.Prelude.{◌≢◌, ◌⊎◌, nat_lt, is_some}
 use Rattle.index_lists.specs.Words.{count}
 use Rattle.index_lists.proofs.Counts.{same_or_not}
-use Rattle.plain_files.specs.Plain.{State}
-use Rattle.core_state.specs.declared.actor.Actor.{Actor}
-use Rattle.core_state.specs.Words.{is_in, without_all}
-use Rattle.core_state.specs.State.{Loan, Block, Names, Places, Flight, Errand, ToFill, ToFlush, ToMeta, Core}
-use Rattle.core_state.specs.Contents.{InNeitherCache, IsAway, IsBlank, content, contents, page_of, span_block, is_unclean}
-use Rattle.core_state.specs.PlainOf.{plain, names_like}
-use Rattle.core_state.specs.Sound.{HasCopies, IsKept, IsInHand}
-use Rattle.core_state.specs.Placed.{IsFree, AreNamed, HavePlaces, Tails}
-use Rattle.core_state.specs.InFlight.{claims, IsLentTo, IsLoanOf, InFlight}
-use Rattle.core_state.specs.Frames.{HasFrame, HasFrameFor}
-use Rattle.core_state.specs.Dies.{IsFlush, IsErrand, Gathered}
-use Rattle.core_state.specs.Coherent.{Coherent}
-use Rattle.core_state.specs.Resizing.{blocks_between, new_places, renewed_in}
-use Rattle.core_lemmas.proofs.Words.{nothing}
+use Rattle.core_lanes.specs.Plain.{State}
+use Rattle.core_lanes.specs.Actor.{Actor}
+use Rattle.core_lanes.specs.Words.{is_in, without_all}
+use Rattle.core_lanes.specs.State.{Loan, Block, Names, Places, Flight, Errand, ToFill, ToFlush, ToMeta, Core}
+use Rattle.core_lanes.specs.Contents.{InNeitherCache, IsAway, IsBlank, content, contents, page_of, span_block, is_unclean}
+use Rattle.core_lanes.specs.PlainOf.{plain, names_like}
+use Rattle.core_lanes.specs.Sound.{HasCopies, IsKept, IsInHand}
+use Rattle.core_lanes.specs.Placed.{IsFree, AreNamed, HavePlaces, Tails}
+use Rattle.core_lanes.specs.InFlight.{claims, IsLentTo, IsLoanOf, InFlight}
+use Rattle.core_lanes.specs.Frames.{HasFrame, HasFrameFor}
+use Rattle.core_lanes.specs.Dies.{IsFlush, IsErrand, Gathered}
+use Rattle.core_lanes.specs.Coherent.{Coherent}
+use Rattle.core_lanes.specs.Resizing.{blocks_between, new_places, renewed_in}
+use Rattle.core_lanes.proofs.Words.{nothing}
 use Rattle.core_quick.proofs.Seen.{FindAll, locked_names, in_flight_names, gathered_names}
 use Rattle.core_quick.proofs.Released.{listed_at, listed_in, in_is, in_of, length-without_all, each_renewed, stays_out, renewed_copies, renewed_kept, renewed_hand, renewed_blank, renewed_flush, released_order, IsKeptPage, place_kept}
 

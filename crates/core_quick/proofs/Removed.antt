@@ -5,23 +5,23 @@ use Rattle.std.specs.List.{Contains, find}
 use Rattle.std.proofs.lemmas.Slice.Eq.{bytes_eq-Decides}
 use Rattle.std.proofs.lemmas.Bool.Decides.{nat_tests}
 use Rattle.page_base.specs.Bytes.{Pages}
-use Rattle.plain_files.specs.declared.calls.Call.{Call}
-use Rattle.plain_files.specs.declared.calls.Call.TheVariants.{Sync}
-use Rattle.plain_files.specs.declared.calls.PlainFile.{PlainFile}
-use Rattle.plain_files.specs.Lists.{without}
-use Rattle.plain_files.specs.Plain.{State, is_file}
-use Rattle.core_state.specs.Words.{EachBehind}
-use Rattle.core_state.specs.State.{Page, File, Names, Places, Claim, Flight, Core}
-use Rattle.core_state.specs.Contents.{contents, page_of}
-use Rattle.core_state.specs.Reach.{is_data, is_sync, file_by, reach_of, len_or_none, file_for}
-use Rattle.core_state.specs.PlainOf.{file_page, plain_file, plain, bytes_or_none, bytes_by_id, file_like, names_like}
-use Rattle.core_state.specs.InFlight.{claim_of, claims}
-use Rattle.core_state.specs.Placed.{AreNamed, HavePlaces, Tails}
-use Rattle.core_state.specs.Coherent.{Coherent}
-use Rattle.core_state.specs.LaneEvents.{IsUnheld}
-use Rattle.core_state.specs.Resizing.{free_blocks, new_places, renewed_in, exchanged, resized, follows}
-use Rattle.core_lemmas.proofs.Spans.{file_in}
-use Rattle.core_lemmas.proofs.Finds.{found_passes}
+use Rattle.core_lanes.specs.Call.{Call}
+use Rattle.core_lanes.specs.Call.TheVariants.{Sync}
+use Rattle.core_lanes.specs.PlainFile.{PlainFile}
+use Rattle.core_lanes.specs.Lists.{without}
+use Rattle.core_lanes.specs.Plain.{State, is_file}
+use Rattle.core_lanes.specs.Words.{EachBehind}
+use Rattle.core_lanes.specs.State.{Page, File, Names, Places, Claim, Flight, Core}
+use Rattle.core_lanes.specs.Contents.{contents, page_of}
+use Rattle.core_lanes.specs.Reach.{is_data, is_sync, file_by, reach_of, len_or_none, file_for}
+use Rattle.core_lanes.specs.PlainOf.{file_page, plain_file, plain, bytes_or_none, bytes_by_id, file_like, names_like}
+use Rattle.core_lanes.specs.InFlight.{claim_of, claims}
+use Rattle.core_lanes.specs.Placed.{AreNamed, HavePlaces, Tails}
+use Rattle.core_lanes.specs.Coherent.{Coherent}
+use Rattle.core_lanes.specs.LaneEvents.{IsUnheld}
+use Rattle.core_lanes.specs.Resizing.{free_blocks, new_places, renewed_in, exchanged, resized, follows}
+use Rattle.core_lanes.proofs.Spans.{file_in}
+use Rattle.core_lanes.proofs.Finds.{found_passes}
 use Rattle.core_quick.proofs.Seen.{length_bytes, FindAll}
 use Rattle.core_quick.proofs.Named.{in_none, in_cases, in_there, in_here, in_map, find_without, each_map, one_of_id}
 use Rattle.core_quick.proofs.Flying.{unheld_other}

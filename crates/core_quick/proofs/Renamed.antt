@@ -4,17 +4,17 @@ use Rattle.std.specs.Prelude.{◌==◌, ◌*◌, nat_lt, option_map, is_some}
 use Rattle.std.specs.List.{Contains, find}
 use Rattle.std.proofs.lemmas.Bool.Decides.{nat_tests}
 use Rattle.page_base.specs.Bytes.{Pages}
-use Rattle.plain_files.specs.declared.calls.PlainFile.{PlainFile}
-use Rattle.plain_files.specs.Plain.{State}
-use Rattle.core_state.specs.State.{Page, Shape, File, Names, Places, Core}
-use Rattle.core_state.specs.Contents.{page_of}
-use Rattle.core_state.specs.PlainOf.{file_page, plain_file, plain_of, bytes_or_none, bytes_by_id, names_like}
-use Rattle.core_state.specs.Placed.{AreNamed, HavePlaces, Tails}
-use Rattle.core_state.specs.Coherent.{Coherent}
-use Rattle.core_state.specs.Resizing.{resized, follows}
-use Rattle.core_lemmas.proofs.Spans.{found_in}
-use Rattle.core_lemmas.proofs.Finds.{found_passes}
-use Rattle.core_lemmas.proofs.Views.{find_map}
+use Rattle.core_lanes.specs.PlainFile.{PlainFile}
+use Rattle.core_lanes.specs.Plain.{State}
+use Rattle.core_lanes.specs.State.{Page, Shape, File, Names, Places, Core}
+use Rattle.core_lanes.specs.Contents.{page_of}
+use Rattle.core_lanes.specs.PlainOf.{file_page, plain_file, plain_of, bytes_or_none, bytes_by_id, names_like}
+use Rattle.core_lanes.specs.Placed.{AreNamed, HavePlaces, Tails}
+use Rattle.core_lanes.specs.Coherent.{Coherent}
+use Rattle.core_lanes.specs.Resizing.{resized, follows}
+use Rattle.core_lanes.proofs.Spans.{found_in}
+use Rattle.core_lanes.proofs.Finds.{found_passes}
+use Rattle.core_lanes.proofs.Views.{find_map}
 use Rattle.core_quick.proofs.Same.{resized_same}
 use Rattle.core_quick.proofs.Seen.{length_bytes}
 use Rattle.core_quick.proofs.Named.{found_some, one_of_id}

@@ -5,9 +5,9 @@ use Rattle.std.specs.List.{slice_get}
 use Rattle.std.proofs.lemmas.Bool.Decides.{nat_tests}
 use mathlib.Core.Path.{fun_ext}
 use Rattle.index_lists.proofs.Counts.{count-nil}
-use Rattle.core_state.specs.Words.{listed_to, is_in, without_all}
-use Rattle.core_state.specs.State.{Block, Places, Core}
-use Rattle.core_state.specs.Resizing.{free_blocks, blocks_between, page_between, new_places, renewed, renewed_in, exchanged, resized}
+use Rattle.core_lanes.specs.Words.{listed_to, is_in, without_all}
+use Rattle.core_lanes.specs.State.{Block, Places, Core}
+use Rattle.core_lanes.specs.Resizing.{free_blocks, blocks_between, page_between, new_places, renewed, renewed_in, exchanged, resized}
 
 -- nothing is listed of no numbers
 listed_none : (row : ℕ → Option ℕ) (n : ℕ) → n ≡ 0 → listed_to n row ≡ []

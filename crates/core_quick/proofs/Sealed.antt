@@ -3,19 +3,19 @@ use Rattle.std.proofs.Common.{◌≡◌, ℕ, ◌<◌, Bool, true, false, List, 
 use Rattle.std.specs.Prelude.{◌≢◌, ◌⊎◌, ◌==◌, not, map, option_map, if◌then◌else◌}
 use Rattle.std.specs.List.{Contains, find}
 use Rattle.std.proofs.lemmas.Slice.Eq.{bytes_eq-Decides}
-use Rattle.plain_files.specs.declared.calls.PlainFile.{PlainFile}
-use Rattle.plain_files.specs.Lists.{with_changed}
-use Rattle.plain_files.specs.Plain.{is_file, with_sealed}
-use Rattle.core_state.specs.Words.{EachBehind}
-use Rattle.core_state.specs.State.{Page, File, Names, Places, Core}
-use Rattle.core_state.specs.Contents.{contents}
-use Rattle.core_state.specs.Reach.{file_by}
-use Rattle.core_state.specs.PlainOf.{bytes_or_none, bytes_by_id, file_page, plain_file, plain, file_like, names_like}
-use Rattle.core_state.specs.InFlight.{claims}
-use Rattle.core_state.specs.Coherent.{Coherent}
-use Rattle.core_state.specs.LaneEvents.{IsUnheld}
-use Rattle.core_lemmas.proofs.Words.{same_some}
-use Rattle.core_lemmas.proofs.Views.{file_seen}
+use Rattle.core_lanes.specs.PlainFile.{PlainFile}
+use Rattle.core_lanes.specs.Lists.{with_changed}
+use Rattle.core_lanes.specs.Plain.{is_file, with_sealed}
+use Rattle.core_lanes.specs.Words.{EachBehind}
+use Rattle.core_lanes.specs.State.{Page, File, Names, Places, Core}
+use Rattle.core_lanes.specs.Contents.{contents}
+use Rattle.core_lanes.specs.Reach.{file_by}
+use Rattle.core_lanes.specs.PlainOf.{bytes_or_none, bytes_by_id, file_page, plain_file, plain, file_like, names_like}
+use Rattle.core_lanes.specs.InFlight.{claims}
+use Rattle.core_lanes.specs.Coherent.{Coherent}
+use Rattle.core_lanes.specs.LaneEvents.{IsUnheld}
+use Rattle.core_lanes.proofs.Words.{same_some}
+use Rattle.core_lanes.proofs.Views.{file_seen}
 use Rattle.core_quick.proofs.Seen.{length_bytes, renamed_keeps}
 use Rattle.core_quick.proofs.Named.{in_none, in_cases, in_there, in_here, in_map, find_changed, each_map}
 use Rattle.core_quick.proofs.Renamed.{len_by_id, SameFiles, same_have, same_tails, same_below}

@@ -2,18 +2,18 @@
 use Rattle.std.proofs.Common.{◌≡◌, ℕ, List, [], ◌∷◌, length, Option, Some, None, refl, sym, ap, ◌∙◌, subst, get_or}
 use Rattle.std.specs.Prelude.{◌/◌, ◌%◌, map, option_map, is_some, bytes_eq}
 use Rattle.std.proofs.lemmas.List.FromFn.{length-map-range_with_len}
-use Rattle.plain_files.specs.declared.calls.Call.{Call}
-use Rattle.plain_files.specs.Plain.{State, function_of}
-use Rattle.core_state.specs.Words.{from_fn}
-use Rattle.core_state.specs.State.{Page, Shape, LaneState, File, Function, Names, Places, Claim, Phase, Held, Queued, Running, Reported, Flight, Core}
-use Rattle.core_state.specs.Contents.{contents}
-use Rattle.core_state.specs.Reach.{file_word, function_word, file_by, function_by, file_for, function_for, claim_on}
-use Rattle.core_state.specs.PlainOf.{file_bytes, file_page, plain_file, plain_function, plain_of, plain, file_like, function_like, names_like}
-use Rattle.core_state.specs.InFlight.{claim_of, claims, Locked, InFlight}
-use Rattle.core_state.specs.Placed.{AreNamed, HavePlaces, Tails}
-use Rattle.core_state.specs.Dies.{IsResult, Gathered}
-use Rattle.core_state.specs.Coherent.{Coherent}
-use Rattle.core_lemmas.proofs.Views.{find_map, file_seen, function_seen, FindsSame, early_same, outcome_same, is_some_map}
+use Rattle.core_lanes.specs.Call.{Call}
+use Rattle.core_lanes.specs.Plain.{State, function_of}
+use Rattle.core_lanes.specs.Words.{from_fn}
+use Rattle.core_lanes.specs.State.{Page, Shape, LaneState, File, Function, Names, Places, Claim, Phase, Held, Queued, Running, Reported, Flight, Core}
+use Rattle.core_lanes.specs.Contents.{contents}
+use Rattle.core_lanes.specs.Reach.{file_word, function_word, file_by, function_by, file_for, function_for, claim_on}
+use Rattle.core_lanes.specs.PlainOf.{file_bytes, file_page, plain_file, plain_function, plain_of, plain, file_like, function_like, names_like}
+use Rattle.core_lanes.specs.InFlight.{claim_of, claims, Locked, InFlight}
+use Rattle.core_lanes.specs.Placed.{AreNamed, HavePlaces, Tails}
+use Rattle.core_lanes.specs.Dies.{IsResult, Gathered}
+use Rattle.core_lanes.specs.Coherent.{Coherent}
+use Rattle.core_lanes.proofs.Views.{find_map, file_seen, function_seen, FindsSame, early_same, outcome_same, is_some_map}
 
 -- ---- a file and its view
 

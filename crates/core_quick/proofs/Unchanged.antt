@@ -2,15 +2,15 @@
 use Rattle.std.proofs.Common.{◌≡◌, ℕ, List, [], ◌∷◌, Option, Some, refl, sym, ap, subst}
 use Rattle.std.specs.Prelude.{◌<◌, ◌≢◌, map}
 use Rattle.std.specs.List.{Contains}
-use Rattle.plain_files.specs.Plain as plain_files
-use Rattle.plain_files.specs.Plain.{State}
-use Rattle.core_state.specs.Words.{EachBehind}
-use Rattle.core_state.specs.State.{Page, Shape, File, Function, Names, Places, Core}
-use Rattle.core_state.specs.Contents.{contents}
-use Rattle.core_state.specs.PlainOf.{plain_file, plain_function, plain_of, plain, function_like, names_like}
-use Rattle.core_state.specs.Placed.{AreNamed}
-use Rattle.core_state.specs.Coherent.{Coherent}
-use Rattle.core_state.specs.Resizing.{follows}
+use Rattle.core_lanes.specs.Plain as plain_files
+use Rattle.core_lanes.specs.Plain.{State}
+use Rattle.core_lanes.specs.Words.{EachBehind}
+use Rattle.core_lanes.specs.State.{Page, Shape, File, Function, Names, Places, Core}
+use Rattle.core_lanes.specs.Contents.{contents}
+use Rattle.core_lanes.specs.PlainOf.{plain_file, plain_function, plain_of, plain, function_like, names_like}
+use Rattle.core_lanes.specs.Placed.{AreNamed}
+use Rattle.core_lanes.specs.Coherent.{Coherent}
+use Rattle.core_lanes.specs.Resizing.{follows}
 use Rattle.core_quick.proofs.Seen.{files_seen, renamed_keeps}
 use Rattle.core_quick.proofs.Named.{each_map}
 use Rattle.core_quick.proofs.Renamed.{SameFiles, same_have, same_tails, same_below, len_by_id, follows_is}

@@ -1,13 +1,13 @@
 //! Laws: each is the contract of an empty function.
 ghost use Rattle.std.specs.Prelude.{◌≡◌, ℕ};
-ghost use Rattle.plain_files.specs.declared.calls.Reply.{Reply};
-ghost use Rattle.plain_files.specs.declared.calls.Request.{Request};
-ghost use Rattle.plain_files.specs.Plain.{answer};
-ghost use Rattle.core_state.specs.declared.event.Event.TheVariants.{Quick};
-ghost use Rattle.core_state.specs.State.{Core};
-ghost use Rattle.core_state.specs.PlainOf.{plain};
-ghost use Rattle.core_state.specs.Coherent.{Coherent};
-ghost use Rattle.core_state.specs.Happens.{Happens};
+ghost use Rattle.core_lanes.specs.Reply.{Reply};
+ghost use Rattle.core_lanes.specs.Request.{Request};
+ghost use Rattle.core_lanes.specs.Plain.{answer};
+ghost use Rattle.core_lanes.specs.Event.TheVariants.{Quick};
+ghost use Rattle.core_lanes.specs.State.{Core};
+ghost use Rattle.core_lanes.specs.PlainOf.{plain};
+ghost use Rattle.core_lanes.specs.Coherent.{Coherent};
+ghost use Rattle.core_lanes.specs.Happens.{Happens};
 ghost use Rattle.core_lanes.specs.Keeps.{Keeps};
 
 /// A call that is answered at once keeps a core coherent.

@@ -20,3 +20,13 @@ pub mod Happens
 pub mod History
 pub mod Hold
 pub mod SmallRun
+pub use Rattle.plain_files.specs.declared.calls.Call
+pub use Rattle.plain_files.specs.Plain
+pub use Rattle.plain_files.specs.declared.calls.PlainFile
+pub use Rattle.plain_files.specs.declared.calls.Request
+pub use Rattle.plain_files.specs.declared.calls.Reply
+pub use Rattle.plain_files.specs.Lists
+pub use Rattle.plain_files.specs.Steps
+pub use Rattle.coherence.specs.Paired
+pub use Rattle.coherence.specs.Changes
+pub use Rattle.plain_files.specs.History as PlainFilesHistory

@@ -7,16 +7,16 @@ use Rattle.page_base.specs.Bytes.{Pages}
 use Rattle.dispatcher.specs.declared.side.Side.{Side}
 use Rattle.index_lists.specs.Words.{count}
 use Rattle.index_lists.proofs.Counts.{same_or_not, count-append}
-use Rattle.plain_files.specs.Plain.{State}
-use Rattle.core_state.specs.Words.{is_at, or_else, first_to, is_in}
-use Rattle.core_state.specs.State.{Page, Loan, Block, File, Places, Flight, Core}
-use Rattle.core_state.specs.Contents.{IsBlank, span_block}
-use Rattle.core_state.specs.PlainOf.{bytes_by_id, page_at}
-use Rattle.core_state.specs.Coherent.{Coherent}
-use Rattle.core_state.specs.Resizing.{blocks_between, new_places, renewed}
-use Rattle.core_state.specs.EndEvent.{installed, installed_at}
-use Rattle.core_lemmas.proofs.Words.{same_some, low, high, is_low}
-use Rattle.core_quick.proofs.Released.{listed_at, in_of, out_of}
+use Rattle.core_hold.specs.Plain.{State}
+use Rattle.core_hold.specs.Words.{is_at, or_else, first_to, is_in}
+use Rattle.core_hold.specs.State.{Page, Loan, Block, File, Places, Flight, Core}
+use Rattle.core_hold.specs.Contents.{IsBlank, span_block}
+use Rattle.core_hold.specs.PlainOf.{bytes_by_id, page_at}
+use Rattle.core_hold.specs.Coherent.{Coherent}
+use Rattle.core_hold.specs.Resizing.{blocks_between, new_places, renewed}
+use Rattle.core_hold.specs.EndEvent.{installed, installed_at}
+use Rattle.core_hold.proofs.Words.{same_some, low, high, is_low}
+use Rattle.core_hold.proofs.Released.{listed_at, in_of, out_of}
 use Rattle.core_hold.proofs.Moves.{not_fresh}
 use Rattle.core_hold.proofs.Quicks.{other_place}
 use Rattle.core_hold.proofs.Spanning.{own_place}

@@ -4,23 +4,23 @@ use Rattle.std.specs.Prelude.{◌≢◌, ◌^◌, nat_lt, map, option_map, unwra
 use Rattle.std.proofs.lemmas.Bool.Decides.{nat_tests}
 use Rattle.page_base.specs.Bytes.{Pages}
 use Rattle.index_lists.proofs.Counts.{same_or_not}
-use Rattle.plain_files.specs.declared.calls.Call.{Call}
-use Rattle.plain_files.specs.declared.calls.Call.TheVariants.{Write, Append, Trunc, Writel}
-use Rattle.plain_files.specs.declared.calls.PlainFile.{PlainFile}
-use Rattle.plain_files.specs.Plain.{State, file_of, bytes_in, end_of}
-use Rattle.core_state.specs.State.{Page, File, Names, Places, Reach, Claim, Flight, Core}
-use Rattle.core_state.specs.Contents.{contents}
-use Rattle.core_state.specs.Reach.{file_word, function_word, file_by, file_for, id_or_none, len_or_none, write_reach, reach_of, claim_on, claim_for}
-use Rattle.core_state.specs.PlainOf.{plain_file, plain_function, plain_of, plain, file_page, outcome_of, used_of, fuel_of, file_like, names_like}
-use Rattle.core_state.specs.InFlight.{claim_of, AreThere, IsRight}
-use Rattle.core_state.specs.Coherent.{Coherent}
-use Rattle.core_state.specs.EndEvent.{learnt_by}
-use Rattle.core_lemmas.proofs.Spans.{file_in as file_in_list}
-use Rattle.core_lemmas.proofs.Views.{find_map, file_seen, is_some_map, function_there}
-use Rattle.core_lemmas.proofs.Words.{less_or_not}
-use Rattle.core_quick.proofs.Seen.{length_bytes}
-use Rattle.core_quick.proofs.Named.{one_of_id}
-use Rattle.core_quick.proofs.Unchanged.{functions_back}
+use Rattle.core_hold.specs.Call.{Call}
+use Rattle.core_hold.specs.Call.TheVariants.{Write, Append, Trunc, Writel}
+use Rattle.core_hold.specs.PlainFile.{PlainFile}
+use Rattle.core_hold.specs.Plain.{State, file_of, bytes_in, end_of}
+use Rattle.core_hold.specs.State.{Page, File, Names, Places, Reach, Claim, Flight, Core}
+use Rattle.core_hold.specs.Contents.{contents}
+use Rattle.core_hold.specs.Reach.{file_word, function_word, file_by, file_for, id_or_none, len_or_none, write_reach, reach_of, claim_on, claim_for}
+use Rattle.core_hold.specs.PlainOf.{plain_file, plain_function, plain_of, plain, file_page, outcome_of, used_of, fuel_of, file_like, names_like}
+use Rattle.core_hold.specs.InFlight.{claim_of, AreThere, IsRight}
+use Rattle.core_hold.specs.Coherent.{Coherent}
+use Rattle.core_hold.specs.EndEvent.{learnt_by}
+use Rattle.core_hold.proofs.Spans.{file_in as file_in_list}
+use Rattle.core_hold.proofs.CoreLemmasViews.{find_map, file_seen, is_some_map, function_there}
+use Rattle.core_hold.proofs.Words.{less_or_not}
+use Rattle.core_hold.proofs.Seen.{length_bytes}
+use Rattle.core_hold.proofs.Named.{one_of_id}
+use Rattle.core_hold.proofs.Unchanged.{functions_back}
 use Rattle.core_hold.proofs.Reaches.{Apart}
 use Rattle.core_ends.proofs.Plainly.{learnt_names}
 use Rattle.core_hold.proofs.Stores.{end_fits}

@@ -6,18 +6,18 @@ use Rattle.std.proofs.lemmas.List.{get_or-replicate, get_or_past}
 use Rattle.std.proofs.lemmas.List.FromFn.{get_or-map-range_with_len}
 use Rattle.page_base.specs.Bytes.{Pages, zero_page}
 use Rattle.index_lists.proofs.Counts.{same_or_not}
-use Rattle.plain_files.specs.Plain.{State}
-use Rattle.core_state.specs.Words.{from_fn}
-use Rattle.core_state.specs.State.{Page, Block, File, Flight, Core}
-use Rattle.core_state.specs.Contents.{IsBlank, content, contents, page_of}
-use Rattle.core_state.specs.PlainOf.{bytes_by_id, page_at}
-use Rattle.core_state.specs.Placed.{Tails}
-use Rattle.core_state.specs.Placed.{HavePlaces}
-use Rattle.core_state.specs.Coherent.{Coherent}
-use Rattle.core_state.specs.Resizing.{renewed}
-use Rattle.core_lemmas.proofs.Words.{less_or_not}
-use Rattle.core_quick.proofs.Named.{in_map, one_of_id}
-use Rattle.core_quick.proofs.Released.{renewed_blank}
+use Rattle.core_hold.specs.Plain.{State}
+use Rattle.core_hold.specs.Words.{from_fn}
+use Rattle.core_hold.specs.State.{Page, Block, File, Flight, Core}
+use Rattle.core_hold.specs.Contents.{IsBlank, content, contents, page_of}
+use Rattle.core_hold.specs.PlainOf.{bytes_by_id, page_at}
+use Rattle.core_hold.specs.Placed.{Tails}
+use Rattle.core_hold.specs.Placed.{HavePlaces}
+use Rattle.core_hold.specs.Coherent.{Coherent}
+use Rattle.core_hold.specs.Resizing.{renewed}
+use Rattle.core_hold.proofs.Words.{less_or_not}
+use Rattle.core_hold.proofs.Named.{in_map, one_of_id}
+use Rattle.core_hold.proofs.Released.{renewed_blank}
 use Rattle.core_stores.proofs.Named.{relen, own_relen, other_relen}
 use Rattle.core_stores.proofs.Free.{listed_there}
 use Rattle.core_hold.proofs.Others.{file_is, new_len, fresh_of, places_of, spanned_of, there}

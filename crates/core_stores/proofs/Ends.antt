@@ -1,30 +1,30 @@
 -- The End of a call that stores, and any End.
 use Rattle.std.proofs.Common.{◌≡◌, ℕ, Bool, true, false, List, length, Option, Some, refl, sym, ap, ◌∙◌, subst, inl, inr}
 use Rattle.std.specs.Prelude.{◌≢◌, map, if◌then◌else◌}
-use Rattle.plain_files.specs.declared.calls.Reply.{Reply}
-use Rattle.plain_files.specs.declared.calls.Request.{Request}
-use Rattle.plain_files.specs.Plain.{bytes_in, answer}
-use Rattle.core_state.specs.declared.actor.Actor.TheVariants.{Lane}
-use Rattle.core_state.specs.State.{Function, File, Reach, Flight, Core}
-use Rattle.core_state.specs.Reach.{function_word}
-use Rattle.core_state.specs.PlainOf.{plain, outcome_of, used_of, fuel_of, bytes_by_id, function_like}
-use Rattle.core_state.specs.Dies.{owner}
-use Rattle.core_state.specs.Coherent.{Coherent}
-use Rattle.core_state.specs.EndEvent.{MayEnd, ended, has_changed, ended_storing, ended_plainly, ended_by_fault, ended_of}
-use Rattle.core_lemmas.proofs.Calls.{end_owned}
-use Rattle.core_lanes.proofs.Phases.{flight_is}
+use Rattle.core_hold.specs.Reply.{Reply}
+use Rattle.core_hold.specs.Request.{Request}
+use Rattle.core_hold.specs.Plain.{bytes_in, answer}
+use Rattle.core_hold.specs.Actor.TheVariants.{Lane}
+use Rattle.core_hold.specs.State.{Function, File, Reach, Flight, Core}
+use Rattle.core_hold.specs.Reach.{function_word}
+use Rattle.core_hold.specs.PlainOf.{plain, outcome_of, used_of, fuel_of, bytes_by_id, function_like}
+use Rattle.core_hold.specs.Dies.{owner}
+use Rattle.core_hold.specs.Coherent.{Coherent}
+use Rattle.core_hold.specs.EndEvent.{MayEnd, ended, has_changed, ended_storing, ended_plainly, ended_by_fault, ended_of}
+use Rattle.core_hold.proofs.Calls.{end_owned}
+use Rattle.core_hold.proofs.CoreLanesPhases.{flight_is}
 use Rattle.page_base.specs.Bytes.{Pages}
-use Rattle.plain_files.specs.Plain as plain_files
-use Rattle.plain_files.specs.Plain.{State, is_overfull, with_content}
-use Rattle.core_state.specs.Words.{EachBehind}
-use Rattle.core_state.specs.Sides.{learnt}
-use Rattle.core_state.specs.Happens.{HoldsNone}
-use Rattle.core_quick.proofs.Named.{each_map}
-use Rattle.core_quick.proofs.Unchanged.{functions_of}
+use Rattle.core_hold.specs.Plain as plain_files
+use Rattle.core_hold.specs.Plain.{State, is_overfull, with_content}
+use Rattle.core_hold.specs.Words.{EachBehind}
+use Rattle.core_hold.specs.Sides.{learnt}
+use Rattle.core_hold.specs.Happens.{HoldsNone}
+use Rattle.core_hold.proofs.Named.{each_map}
+use Rattle.core_hold.proofs.Unchanged.{functions_of}
 use Rattle.core_hold.proofs.Stores.{Spans}
 use Rattle.core_hold.proofs.Others.{IsStoring, reach_is, new_len}
 use Rattle.core_hold.proofs.Changes.{Changes, changes}
-use Rattle.core_state.specs.PageEvents.{flight_at}
+use Rattle.core_hold.specs.PageEvents.{flight_at}
 use Rattle.core_ends.proofs.Ending as plainly
 use Rattle.core_hold.proofs.Storing.{storing_with}
 use Rattle.core_stores.proofs.Became.{IsEnding}

@@ -1,25 +1,25 @@
 -- Runs: each event keeps a core coherent, and the calls of a run are legal on plain files.
 use Rattle.std.proofs.Common.{List, [], ◌∷◌, ◌++◌, Option, Some, None, refl, sym, ap, subst, inl, inr, ⊎_elim}
-use Rattle.plain_files.specs.History.{Entry, Legal}
-use Rattle.plain_files.specs.Plain.{State}
-use Rattle.core_state.specs.declared.event.Event.{Event}
-use Rattle.core_state.specs.declared.event.Event.TheVariants.{Enter, Leave, Quick, Skip, Begin, Copy, Take, DieOut, FillIn, Submit, Fetch, Report, End, Evict, Demote, FlushOut, FlushIn, MetaIn}
-use Rattle.core_state.specs.State.{Core}
-use Rattle.core_state.specs.PlainOf.{plain}
-use Rattle.core_state.specs.Coherent.{Coherent}
-use Rattle.core_state.specs.Happens.{after, Happens, CoreRun}
-use Rattle.core_state.specs.History.{and_then, entry_of, calls_of}
-use Rattle.core_lanes.proofs.Beginning.{begin_keeps}
-use Rattle.core_lanes.proofs.Idle.{enter_keeps, leave_keeps, skip_keeps}
-use Rattle.core_lanes.proofs.Metas.{meta_in_keeps}
-use Rattle.core_lanes.proofs.Outward.{flush_out_keeps, die_out_keeps}
-use Rattle.core_lanes.proofs.Phases.{submit_keeps, fetch_keeps, report_keeps}
-use Rattle.core_pages.proofs.Copy.{copy_keeps}
-use Rattle.core_pages.proofs.FillIn.{fill_in_keeps}
-use Rattle.core_pages.proofs.FlushIn.{flush_in_keeps}
-use Rattle.core_pages.proofs.Idle.{evict_keeps, demote_keeps}
-use Rattle.core_pages.proofs.Take.{take_keeps}
-use Rattle.core_quick.proofs.Quick.{quick_keeps}
+use Rattle.core_hold.specs.PlainFilesHistory.{Entry, Legal}
+use Rattle.core_hold.specs.Plain.{State}
+use Rattle.core_hold.specs.Event.{Event}
+use Rattle.core_hold.specs.Event.TheVariants.{Enter, Leave, Quick, Skip, Begin, Copy, Take, DieOut, FillIn, Submit, Fetch, Report, End, Evict, Demote, FlushOut, FlushIn, MetaIn}
+use Rattle.core_hold.specs.State.{Core}
+use Rattle.core_hold.specs.PlainOf.{plain}
+use Rattle.core_hold.specs.Coherent.{Coherent}
+use Rattle.core_hold.specs.Happens.{after, Happens, CoreRun}
+use Rattle.core_hold.specs.History.{and_then, entry_of, calls_of}
+use Rattle.core_hold.proofs.Beginning.{begin_keeps}
+use Rattle.core_hold.proofs.Idle.{enter_keeps, leave_keeps, skip_keeps}
+use Rattle.core_hold.proofs.Metas.{meta_in_keeps}
+use Rattle.core_hold.proofs.CoreLanesOutward.{flush_out_keeps, die_out_keeps}
+use Rattle.core_hold.proofs.CoreLanesPhases.{submit_keeps, fetch_keeps, report_keeps}
+use Rattle.core_ends.proofs.Copy.{copy_keeps}
+use Rattle.core_ends.proofs.FillIn.{fill_in_keeps}
+use Rattle.core_ends.proofs.FlushIn.{flush_in_keeps}
+use Rattle.core_ends.proofs.Idle.{evict_keeps, demote_keeps}
+use Rattle.core_ends.proofs.Take.{take_keeps}
+use Rattle.core_hold.proofs.Quick.{quick_keeps}
 use Rattle.core_stores.proofs.Legal.{event_legal}
 use Rattle.core_stores.proofs.Ends.{end_keeps}
 

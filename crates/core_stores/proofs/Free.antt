@@ -9,9 +9,9 @@ use Rattle.std.proofs.lemmas.List.Sums.{sum_by-cons}
 use Rattle.page_base.specs.Bytes.{Pages}
 use Rattle.index_lists.specs.Words.{one_if, count}
 use Rattle.index_lists.proofs.Counts.{same_or_not, count-nil, count-here, count-there, count-tail}
-use Rattle.core_state.specs.Words.{is_at, any_to}
-use Rattle.core_state.specs.State.{Shape, File, Names, Places}
-use Rattle.core_state.specs.Resizing.{is_placed, free_blocks}
+use Rattle.core_hold.specs.Words.{is_at, any_to}
+use Rattle.core_hold.specs.State.{Shape, File, Names, Places}
+use Rattle.core_hold.specs.Resizing.{is_placed, free_blocks}
 
 -- ---- numbers in a row stand once
 

@@ -6,16 +6,16 @@ use Rattle.dispatcher.specs.declared.side.Side.{Side}
 use Rattle.dispatcher.specs.declared.side.Side.TheVariants.{Host, Drive}
 use Rattle.index_lists.specs.Words.{count, one_if, without}
 use Rattle.index_lists.proofs.Counts.{length-without}
-use Rattle.core_state.specs.Words.{sum_to, listed_to, is_in, without_all, all_last, Lists}
-use Rattle.core_state.specs.State.{Page, Loan, Block}
-use Rattle.core_state.specs.Contents.{IsBlank, content}
-use Rattle.core_state.specs.Sound.{HasCopies, IsKept, IsInHand}
-use Rattle.core_state.specs.Dies.{IsFlush}
-use Rattle.core_state.specs.Resizing.{renewed, renewed_in}
-use Rattle.core_state.specs.EndEvent.{installed}
-use Rattle.core_lemmas.proofs.Words.{nothing, same_some}
-use Rattle.core_lemmas.proofs.Spans.{listed-none, listed-one}
-use Rattle.core_quick.proofs.Released.{renewed_copies, renewed_kept, renewed_hand, renewed_flush, released_order, count-without_all_in, count-without_all_out}
+use Rattle.core_hold.specs.Words.{sum_to, listed_to, is_in, without_all, all_last, Lists}
+use Rattle.core_hold.specs.State.{Page, Loan, Block}
+use Rattle.core_hold.specs.Contents.{IsBlank, content}
+use Rattle.core_hold.specs.Sound.{HasCopies, IsKept, IsInHand}
+use Rattle.core_hold.specs.Dies.{IsFlush}
+use Rattle.core_hold.specs.Resizing.{renewed, renewed_in}
+use Rattle.core_hold.specs.EndEvent.{installed}
+use Rattle.core_hold.proofs.Words.{nothing, same_some}
+use Rattle.core_hold.proofs.Spans.{listed-none, listed-one}
+use Rattle.core_hold.proofs.Released.{renewed_copies, renewed_kept, renewed_hand, renewed_flush, released_order, count-without_all_in, count-without_all_out}
 use Rattle.core_ends.proofs.Returning.{all_last_order}
 use Rattle.core_stores.proofs.Became.{Became, Kept, Renewed, Put}
 

@@ -1,20 +1,20 @@
 -- Each event moves the plain state as the call that it ends, if it ends one.
 use Rattle.std.proofs.Common.{◌≡◌, ℕ, Bool, true, false, [], ◌∷◌, refl, sym, ap, ◌∙◌, subst, inl, inr}
 use Rattle.std.specs.Prelude.{if◌then◌else◌, IsTrue}
-use Rattle.plain_files.specs.declared.calls.Reply.{Reply}
-use Rattle.plain_files.specs.declared.calls.Reply.TheVariants.{Fault, NoMemory}
-use Rattle.plain_files.specs.declared.calls.Request.{Request}
-use Rattle.plain_files.specs.History.{Legal, is_excuse}
-use Rattle.plain_files.specs.Plain.{State, answer}
-use Rattle.core_state.specs.declared.event.Event.{Event}
-use Rattle.core_state.specs.declared.event.Event.TheVariants.{Enter, Leave, Quick, Skip, Begin, Copy, Take, DieOut, FillIn, Submit, Fetch, Report, End, Evict, Demote, FlushOut, FlushIn, MetaIn}
-use Rattle.core_state.specs.State.{Core}
-use Rattle.core_state.specs.PlainOf.{plain}
-use Rattle.core_state.specs.Coherent.{Coherent}
-use Rattle.core_state.specs.Happens.{Happens}
-use Rattle.core_state.specs.History.{calls_of}
-use Rattle.core_pages.proofs.Plains.{plain_stays}
-use Rattle.core_quick.proofs.Moves.{quick_moves}
+use Rattle.core_hold.specs.Reply.{Reply}
+use Rattle.core_hold.specs.Reply.TheVariants.{Fault, NoMemory}
+use Rattle.core_hold.specs.Request.{Request}
+use Rattle.core_hold.specs.PlainFilesHistory.{Legal, is_excuse}
+use Rattle.core_hold.specs.Plain.{State, answer}
+use Rattle.core_hold.specs.Event.{Event}
+use Rattle.core_hold.specs.Event.TheVariants.{Enter, Leave, Quick, Skip, Begin, Copy, Take, DieOut, FillIn, Submit, Fetch, Report, End, Evict, Demote, FlushOut, FlushIn, MetaIn}
+use Rattle.core_hold.specs.State.{Core}
+use Rattle.core_hold.specs.PlainOf.{plain}
+use Rattle.core_hold.specs.Coherent.{Coherent}
+use Rattle.core_hold.specs.Happens.{Happens}
+use Rattle.core_hold.specs.History.{calls_of}
+use Rattle.core_ends.proofs.Plains.{plain_stays}
+use Rattle.core_hold.proofs.CoreQuickMoves.{quick_moves}
 use Rattle.core_ends.proofs.Ending.{end_stays}
 use Rattle.core_stores.proofs.Moving.{event_moves}
 

@@ -6,28 +6,28 @@ use mathlib.Core.Path.{fun_ext}
 use Rattle.std.proofs.lemmas.List.{get_or_past}
 use Rattle.std.proofs.lemmas.List.FromFn.{get_or-map-range_with_len, fill_by_all}
 use Rattle.page_base.specs.Bytes.{Pages}
-use Rattle.plain_files.specs.declared.calls.PlainFile.{PlainFile}
-use Rattle.plain_files.specs.declared.calls.Reply.{Reply}
-use Rattle.plain_files.specs.declared.calls.Request.{Request}
-use Rattle.plain_files.specs.Lists.{with_changed}
-use Rattle.plain_files.specs.Plain.{State, is_file, bytes_in, answer}
-use Rattle.core_state.specs.Words.{from_fn, EachBehind}
-use Rattle.core_state.specs.State.{Page, Block, File, Places, Reach, Claim, Flight, Core}
-use Rattle.core_state.specs.Contents.{content, contents, page_of}
-use Rattle.core_state.specs.Reach.{is_exclusive, len_or_none, file_for, reach_of}
-use Rattle.core_state.specs.PlainOf.{file_bytes, file_page, plain_file, plain, has_stored, bytes_by_id, page_at}
-use Rattle.core_state.specs.Placed.{HavePlaces}
-use Rattle.core_state.specs.InFlight.{claim_of}
-use Rattle.core_state.specs.Coherent.{Coherent}
-use Rattle.core_state.specs.Resizing.{renewed}
-use Rattle.core_state.specs.EndEvent.{has_changed, ended_storing, ended_plainly, ended_by_fault, ended_of, ended, MayEnd}
-use Rattle.core_lemmas.proofs.Words.{same_some, less_or_not, is_low}
-use Rattle.core_lemmas.proofs.Spans.{found_in}
-use Rattle.core_lanes.proofs.Phases.{flight_is}
-use Rattle.core_quick.proofs.Seen.{length_bytes}
-use Rattle.core_quick.proofs.Named.{in_here, in_there}
-use Rattle.core_quick.proofs.Released.{renewed_blank}
-use Rattle.core_quick.proofs.Sealed.{in_mapped}
+use Rattle.core_hold.specs.PlainFile.{PlainFile}
+use Rattle.core_hold.specs.Reply.{Reply}
+use Rattle.core_hold.specs.Request.{Request}
+use Rattle.core_hold.specs.Lists.{with_changed}
+use Rattle.core_hold.specs.Plain.{State, is_file, bytes_in, answer}
+use Rattle.core_hold.specs.Words.{from_fn, EachBehind}
+use Rattle.core_hold.specs.State.{Page, Block, File, Places, Reach, Claim, Flight, Core}
+use Rattle.core_hold.specs.Contents.{content, contents, page_of}
+use Rattle.core_hold.specs.Reach.{is_exclusive, len_or_none, file_for, reach_of}
+use Rattle.core_hold.specs.PlainOf.{file_bytes, file_page, plain_file, plain, has_stored, bytes_by_id, page_at}
+use Rattle.core_hold.specs.Placed.{HavePlaces}
+use Rattle.core_hold.specs.InFlight.{claim_of}
+use Rattle.core_hold.specs.Coherent.{Coherent}
+use Rattle.core_hold.specs.Resizing.{renewed}
+use Rattle.core_hold.specs.EndEvent.{has_changed, ended_storing, ended_plainly, ended_by_fault, ended_of, ended, MayEnd}
+use Rattle.core_hold.proofs.Words.{same_some, less_or_not, is_low}
+use Rattle.core_hold.proofs.Spans.{found_in}
+use Rattle.core_hold.proofs.CoreLanesPhases.{flight_is}
+use Rattle.core_hold.proofs.Seen.{length_bytes}
+use Rattle.core_hold.proofs.Named.{in_here, in_there}
+use Rattle.core_hold.proofs.Released.{renewed_blank}
+use Rattle.core_hold.proofs.Sealed.{in_mapped}
 use Rattle.core_ends.proofs.Ending.{plainly_plain}
 use Rattle.core_hold.proofs.Quicks.{other_place}
 use Rattle.core_hold.proofs.Rests.{RestStays}

@@ -5,16 +5,16 @@ use Rattle.std.specs.List.{Contains, find}
 use Rattle.std.proofs.lemmas.Bool.Decides.{nat_tests}
 use Rattle.std.proofs.lemmas.List.Sums.{sum_by-cons}
 use Rattle.page_base.specs.Bytes.{Pages}
-use Rattle.plain_files.specs.declared.calls.PlainFile.{PlainFile}
-use Rattle.plain_files.specs.Lists.{with_changed}
-use Rattle.plain_files.specs.Plain.{is_file}
-use Rattle.core_state.specs.Words.{EachBehind}
-use Rattle.core_state.specs.State.{Page, File, Places}
-use Rattle.core_state.specs.PlainOf.{file_page, plain_file, file_like}
-use Rattle.core_lemmas.proofs.Words.{same_some}
-use Rattle.core_lemmas.proofs.Spans.{found_in}
-use Rattle.core_quick.proofs.Seen.{length_bytes, like_seen, files_seen}
-use Rattle.core_quick.proofs.Named.{in_here}
+use Rattle.core_hold.specs.PlainFile.{PlainFile}
+use Rattle.core_hold.specs.Lists.{with_changed}
+use Rattle.core_hold.specs.Plain.{is_file}
+use Rattle.core_hold.specs.Words.{EachBehind}
+use Rattle.core_hold.specs.State.{Page, File, Places}
+use Rattle.core_hold.specs.PlainOf.{file_page, plain_file, file_like}
+use Rattle.core_hold.proofs.Words.{same_some}
+use Rattle.core_hold.proofs.Spans.{found_in}
+use Rattle.core_hold.proofs.Seen.{length_bytes, like_seen, files_seen}
+use Rattle.core_hold.proofs.Named.{in_here}
 use Rattle.core_hold.proofs.Others.{changing}
 
 -- the file, of this length where it has this id

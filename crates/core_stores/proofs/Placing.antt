@@ -6,19 +6,19 @@ use Rattle.std.proofs.lemmas.Bool.Decides.{nat_tests}
 use Rattle.std.proofs.lemmas.List.{length-take}
 use Rattle.page_base.specs.Bytes.{Pages}
 use Rattle.index_lists.proofs.Counts.{same_or_not}
-use Rattle.plain_files.specs.declared.calls.PlainFile.{PlainFile}
-use Rattle.plain_files.specs.Plain.{State, is_file, is_overfull, with_content}
-use Rattle.core_state.specs.Words.{EachBehind}
-use Rattle.core_state.specs.State.{File, Function, Flight, Core}
-use Rattle.core_state.specs.Contents.{contents}
-use Rattle.core_state.specs.PlainOf.{file_page, plain_file, plain}
-use Rattle.core_state.specs.Placed.{AreNamed, HavePlaces}
-use Rattle.core_state.specs.Coherent.{Coherent}
-use Rattle.core_state.specs.Resizing.{free_blocks, page_between}
-use Rattle.core_lemmas.proofs.Words.{low, high}
-use Rattle.core_quick.proofs.Named.{in_map, each_map}
-use Rattle.core_quick.proofs.Sealed.{in_mapped}
-use Rattle.core_quick.proofs.Seen.{length_bytes}
+use Rattle.core_hold.specs.PlainFile.{PlainFile}
+use Rattle.core_hold.specs.Plain.{State, is_file, is_overfull, with_content}
+use Rattle.core_hold.specs.Words.{EachBehind}
+use Rattle.core_hold.specs.State.{File, Function, Flight, Core}
+use Rattle.core_hold.specs.Contents.{contents}
+use Rattle.core_hold.specs.PlainOf.{file_page, plain_file, plain}
+use Rattle.core_hold.specs.Placed.{AreNamed, HavePlaces}
+use Rattle.core_hold.specs.Coherent.{Coherent}
+use Rattle.core_hold.specs.Resizing.{free_blocks, page_between}
+use Rattle.core_hold.proofs.Words.{low, high}
+use Rattle.core_hold.proofs.Named.{in_map, each_map}
+use Rattle.core_hold.proofs.Sealed.{in_mapped}
+use Rattle.core_hold.proofs.Seen.{length_bytes}
 use Rattle.core_hold.proofs.Moves.{not_fresh}
 use Rattle.core_hold.proofs.Quicks.{other_place}
 use Rattle.core_hold.proofs.Spanning.{own_place}

@@ -4,12 +4,12 @@ use Rattle.std.specs.Prelude.{◌≢◌, ◌==◌, ◌/◌, nat_lt, min, if◌th
 use Rattle.std.proofs.lemmas.Bool.Decides.{nat_tests}
 use Rattle.page_base.specs.Bytes.{Pages}
 use Rattle.index_lists.proofs.Counts.{same_or_not}
-use Rattle.plain_files.specs.declared.calls.Call.{Call}
-use Rattle.plain_files.specs.declared.calls.Call.TheVariants.{Create, OpenFile, Stat, Remove, Read, Write, Append, Trunc, Seal, Load, Unload, Readl, Writel, Sync}
-use Rattle.core_state.specs.State.{Shared, Exclusive, Reach}
-use Rattle.core_state.specs.Reach.{no_reach, read_reach, write_reach, trunc_reach, reach_of}
-use Rattle.core_state.specs.InFlight.{InRange}
-use Rattle.core_lemmas.proofs.Words.{less_or_not}
+use Rattle.core_hold.specs.Call.{Call}
+use Rattle.core_hold.specs.Call.TheVariants.{Create, OpenFile, Stat, Remove, Read, Write, Append, Trunc, Seal, Load, Unload, Readl, Writel, Sync}
+use Rattle.core_hold.specs.State.{Shared, Exclusive, Reach}
+use Rattle.core_hold.specs.Reach.{no_reach, read_reach, write_reach, trunc_reach, reach_of}
+use Rattle.core_hold.specs.InFlight.{InRange}
+use Rattle.core_hold.proofs.Words.{less_or_not}
 use Rattle.core_hold.proofs.Reaches.{Stretches, Apart, changed_at, went}
 
 test_is : (m n : ℕ) → m < n → nat_lt m n ≡ true

@@ -4,19 +4,19 @@ use Rattle.std.specs.Prelude.{◌≢◌, ◌==◌, ◌/◌, nat_lt, min, option_
 use Rattle.std.proofs.lemmas.Bool.Decides.{nat_tests}
 use Rattle.page_base.specs.Bytes.{Pages, Cut}
 use Rattle.index_lists.proofs.Counts.{same_or_not}
-use Rattle.plain_files.specs.declared.calls.Call.{Call}
-use Rattle.plain_files.specs.declared.calls.Call.TheVariants.{Create, OpenFile, Stat, Remove, Read, Write, Append, Trunc, Seal, Load, Unload, Readl, Writel, Sync}
-use Rattle.plain_files.specs.declared.calls.PlainFile.{PlainFile}
-use Rattle.plain_files.specs.Plain.{State, bytes_in}
-use Rattle.core_state.specs.State.{Block, File, Places, Shared, Exclusive, Reach, Claim, Flight, Core}
-use Rattle.core_state.specs.Contents.{content, contents, page_of, span_block}
-use Rattle.core_state.specs.Reach.{file_word, file_by, len_or_none, no_reach, read_reach, write_reach, reach_of}
-use Rattle.core_state.specs.PlainOf.{plain_file, plain, file_page}
-use Rattle.core_state.specs.InFlight.{claim_of, InRange}
-use Rattle.core_state.specs.Coherent.{Coherent}
-use Rattle.core_lemmas.proofs.Views.{file_seen}
-use Rattle.core_lemmas.proofs.Words.{less_or_not}
-use Rattle.core_quick.proofs.Flying.{FliesOn, flies_on}
+use Rattle.core_hold.specs.Call.{Call}
+use Rattle.core_hold.specs.Call.TheVariants.{Create, OpenFile, Stat, Remove, Read, Write, Append, Trunc, Seal, Load, Unload, Readl, Writel, Sync}
+use Rattle.core_hold.specs.PlainFile.{PlainFile}
+use Rattle.core_hold.specs.Plain.{State, bytes_in}
+use Rattle.core_hold.specs.State.{Block, File, Places, Shared, Exclusive, Reach, Claim, Flight, Core}
+use Rattle.core_hold.specs.Contents.{content, contents, page_of, span_block}
+use Rattle.core_hold.specs.Reach.{file_word, file_by, len_or_none, no_reach, read_reach, write_reach, reach_of}
+use Rattle.core_hold.specs.PlainOf.{plain_file, plain, file_page}
+use Rattle.core_hold.specs.InFlight.{claim_of, InRange}
+use Rattle.core_hold.specs.Coherent.{Coherent}
+use Rattle.core_hold.proofs.CoreLemmasViews.{file_seen}
+use Rattle.core_hold.proofs.Words.{less_or_not}
+use Rattle.core_hold.proofs.Flying.{FliesOn, flies_on}
 use Rattle.core_hold.proofs.Reaches.{Stretches, Apart, came, went}
 use Rattle.core_stores.proofs.Named.{relen, own_relen, other_relen}
 use Rattle.core_hold.proofs.Others.{IsStoring, StillHas, apart_of, stretches_of, most_of}

@@ -3,15 +3,15 @@ use Rattle.std.proofs.Common.{◌≡◌, ℕ, zero, suc, ◌+◌, ◌-◌, ◌<�
 use Rattle.std.specs.Prelude.{◌/◌, ◌%◌, ◌^◌, nat_lt, is_none, map, min, if◌then◌else◌}
 use Rattle.std.specs.List.{range_with_len}
 use Rattle.page_base.specs.Bytes.{Pages, Cut}
-use Rattle.plain_files.specs.declared.calls.Call.{Call}
-use Rattle.plain_files.specs.declared.calls.Call.TheVariants.{Create, OpenFile, Stat, Remove, Read, Write, Append, Trunc, Seal, Load, Unload, Readl, Writel, Sync}
-use Rattle.plain_files.specs.declared.calls.Reply.TheVariants.{NoFile, NoFn, TooLong, AppendOnly, TooBig}
-use Rattle.plain_files.specs.Plain.{State, file_of, function_of, file_in, bytes_in, is_too_long, lacks_file, lacks_function, is_append_only, end_of, early}
-use Rattle.core_state.specs.Words.{from_fn}
-use Rattle.core_state.specs.State.{Page}
-use Rattle.core_state.specs.Reach.{file_word}
-use Rattle.core_state.specs.PlainOf.{file_bytes, outcome_of}
-use Rattle.core_lemmas.proofs.Views.{CanFly}
+use Rattle.core_hold.specs.Call.{Call}
+use Rattle.core_hold.specs.Call.TheVariants.{Create, OpenFile, Stat, Remove, Read, Write, Append, Trunc, Seal, Load, Unload, Readl, Writel, Sync}
+use Rattle.core_hold.specs.Reply.TheVariants.{NoFile, NoFn, TooLong, AppendOnly, TooBig}
+use Rattle.core_hold.specs.Plain.{State, file_of, function_of, file_in, bytes_in, is_too_long, lacks_file, lacks_function, is_append_only, end_of, early}
+use Rattle.core_hold.specs.Words.{from_fn}
+use Rattle.core_hold.specs.State.{Page}
+use Rattle.core_hold.specs.Reach.{file_word}
+use Rattle.core_hold.specs.PlainOf.{file_bytes, outcome_of}
+use Rattle.core_hold.proofs.CoreLemmasViews.{CanFly}
 
 -- ---- refusals that come early
 

@@ -5,18 +5,18 @@ use Rattle.std.specs.List.{find}
 use Rattle.std.proofs.lemmas.Bool.Decides.{nat_tests}
 use Rattle.page_base.specs.Bytes.{Pages, Cut, Put}
 use Rattle.sbpf_insn.specs.Machine as machine
-use Rattle.plain_files.specs.declared.calls.Call.{Call}
-use Rattle.plain_files.specs.declared.calls.Call.TheVariants.{Read, Write, Append, Trunc, Readl, Writel, Sync}
-use Rattle.plain_files.specs.declared.calls.PlainFile.{PlainFile}
-use Rattle.plain_files.specs.declared.calls.Reply.{Reply}
-use Rattle.plain_files.specs.declared.calls.Reply.TheVariants.{Done, At, Val, NoSpace}
-use Rattle.plain_files.specs.Lists.{with_changed}
-use Rattle.plain_files.specs.Steps.{◌>>=◌, refuse}
-use Rattle.plain_files.specs.Plain.{State, is_file, bytes_in, code_in, is_overfull, with_content, stored, with_length, ended, reply_alone, first_bytes, early, effect, or_refusal, answer_after, answer}
-use Rattle.core_state.specs.State.{Exclusive}
-use Rattle.core_state.specs.Reach.{is_exclusive, no_reach, write_reach, reach_of}
-use Rattle.core_state.specs.PlainOf.{has_stored}
-use Rattle.core_lemmas.proofs.Views.{CanFly}
+use Rattle.core_hold.specs.Call.{Call}
+use Rattle.core_hold.specs.Call.TheVariants.{Read, Write, Append, Trunc, Readl, Writel, Sync}
+use Rattle.core_hold.specs.PlainFile.{PlainFile}
+use Rattle.core_hold.specs.Reply.{Reply}
+use Rattle.core_hold.specs.Reply.TheVariants.{Done, At, Val, NoSpace}
+use Rattle.core_hold.specs.Lists.{with_changed}
+use Rattle.core_hold.specs.Steps.{◌>>=◌, refuse}
+use Rattle.core_hold.specs.Plain.{State, is_file, bytes_in, code_in, is_overfull, with_content, stored, with_length, ended, reply_alone, first_bytes, early, effect, or_refusal, answer_after, answer}
+use Rattle.core_hold.specs.State.{Exclusive}
+use Rattle.core_hold.specs.Reach.{is_exclusive, no_reach, write_reach, reach_of}
+use Rattle.core_hold.specs.PlainOf.{has_stored}
+use Rattle.core_hold.proofs.CoreLemmasViews.{CanFly}
 use Rattle.core_hold.proofs.Outputs.{EndsAsLong, run_long}
 use Rattle.core_hold.proofs.Rests.{put_none}
 use Rattle.core_hold.proofs.Stores.{with_length_is}

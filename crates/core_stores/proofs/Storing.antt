@@ -6,28 +6,28 @@ use Rattle.std.proofs.lemmas.List.FromFn.{length-map-range_with_len}
 use Rattle.page_base.specs.Bytes.{Pages}
 use Rattle.dispatcher.specs.declared.side.Side.{Side}
 use Rattle.dispatcher.specs.declared.side.Side.TheVariants.{Host, Drive}
-use Rattle.coherence.specs.Paired.{by_side}
+use Rattle.core_hold.specs.Paired.{by_side}
 use Rattle.index_lists.specs.Words.{put, one_if, count}
 use Rattle.index_lists.proofs.Puts.{put-other}
-use Rattle.plain_files.specs.declared.calls.Call.{Call}
-use Rattle.plain_files.specs.Plain.{State, is_overfull, with_content}
-use Rattle.core_state.specs.declared.actor.Actor.{Actor}
-use Rattle.core_state.specs.declared.actor.Actor.TheVariants.{Lane}
-use Rattle.core_state.specs.Words.{sum_to, from_fn, listed_to, without_all, all_last, Lists, EachBehind}
-use Rattle.core_state.specs.State.{Page, Loan, Block, File, Function, Places, LaneState, Claim, Frame, NoFrame, Reserved, OnLoan, Phase, Held, Queued, Running, Reported, Flight, Errand, ToFill, ToFlush, ToMeta, Out, Core}
-use Rattle.core_state.specs.Contents.{InNeitherCache, IsAway, IsBlank, contents, copy_at, span_block, is_unclean}
-use Rattle.core_state.specs.PlainOf.{plain, outcome_of, bytes_by_id}
-use Rattle.core_state.specs.Placed.{IsFree, HavePlaces, Tails}
-use Rattle.core_state.specs.InFlight.{claim_of, claims, IsRight, IsLentTo}
-use Rattle.core_state.specs.Frames.{weight, is_side, frames_of, used, HasFrame, HasFrameFor, in_queue}
-use Rattle.core_state.specs.Dies.{owner, IsResult, IsErrand}
-use Rattle.core_state.specs.Coherent.{Coherent}
-use Rattle.core_state.specs.LaneEvents.{replied}
-use Rattle.core_state.specs.EndEvent.{installed, span_order}
-use Rattle.core_lemmas.proofs.Words.{same_some, less_or_not, low}
-use Rattle.core_lemmas.proofs.Calls.{without_call, still_there, other_there}
+use Rattle.core_hold.specs.Call.{Call}
+use Rattle.core_hold.specs.Plain.{State, is_overfull, with_content}
+use Rattle.core_hold.specs.Actor.{Actor}
+use Rattle.core_hold.specs.Actor.TheVariants.{Lane}
+use Rattle.core_hold.specs.Words.{sum_to, from_fn, listed_to, without_all, all_last, Lists, EachBehind}
+use Rattle.core_hold.specs.State.{Page, Loan, Block, File, Function, Places, LaneState, Claim, Frame, NoFrame, Reserved, OnLoan, Phase, Held, Queued, Running, Reported, Flight, Errand, ToFill, ToFlush, ToMeta, Out, Core}
+use Rattle.core_hold.specs.Contents.{InNeitherCache, IsAway, IsBlank, contents, copy_at, span_block, is_unclean}
+use Rattle.core_hold.specs.PlainOf.{plain, outcome_of, bytes_by_id}
+use Rattle.core_hold.specs.Placed.{IsFree, HavePlaces, Tails}
+use Rattle.core_hold.specs.InFlight.{claim_of, claims, IsRight, IsLentTo}
+use Rattle.core_hold.specs.Frames.{weight, is_side, frames_of, used, HasFrame, HasFrameFor, in_queue}
+use Rattle.core_hold.specs.Dies.{owner, IsResult, IsErrand}
+use Rattle.core_hold.specs.Coherent.{Coherent}
+use Rattle.core_hold.specs.LaneEvents.{replied}
+use Rattle.core_hold.specs.EndEvent.{installed, span_order}
+use Rattle.core_hold.proofs.Words.{same_some, less_or_not, low}
+use Rattle.core_hold.proofs.Calls.{without_call, still_there, other_there}
 use Rattle.core_ends.proofs.Landing.{used_gone, locked_gone, queued_gone, errand_gone}
-use Rattle.core_quick.proofs.Released.{listed_in, renewed_blank, length-without_all, count-without_all_out}
+use Rattle.core_hold.proofs.Released.{listed_in, renewed_blank, length-without_all, count-without_all_out}
 use Rattle.core_stores.proofs.Runs.{early_near, outcome_near}
 use Rattle.core_hold.proofs.Others.{StillHas, still_has, fresh_of, places_of, spanned_of, there}
 use Rattle.core_stores.proofs.Became.{IsEnding, Became, Kept, Renewed, Put, placed_stays, place_stays, span_low, gone_from, span_at, span_page, became}

@@ -1,18 +1,18 @@
 //! Laws: each is the contract of an empty function.
 ghost use Rattle.std.specs.Prelude.{ℕ, ◌≡◌, true, false, List, [], ◌∷◌};
-ghost use Rattle.plain_files.specs.declared.calls.Reply.{Reply};
-ghost use Rattle.plain_files.specs.declared.calls.Request.{Request};
-ghost use Rattle.plain_files.specs.History.{Legal};
-ghost use Rattle.plain_files.specs.Plain.{answer};
-ghost use Rattle.core_state.specs.declared.event.Event.{Event};
-ghost use Rattle.core_state.specs.PlainOf.{plain};
-ghost use Rattle.core_state.specs.History.{calls_of};
-ghost use Rattle.core_state.specs.declared.event.Event.TheVariants.{End};
-ghost use Rattle.core_state.specs.State.{Core};
-ghost use Rattle.core_state.specs.PageEvents.{flight_at};
-ghost use Rattle.core_state.specs.EndEvent.{has_changed};
-ghost use Rattle.core_state.specs.Coherent.{Coherent};
-ghost use Rattle.core_state.specs.Happens.{Happens, CoreRun};
+ghost use Rattle.core_hold.specs.Reply.{Reply};
+ghost use Rattle.core_hold.specs.Request.{Request};
+ghost use Rattle.core_hold.specs.PlainFilesHistory.{Legal};
+ghost use Rattle.core_hold.specs.Plain.{answer};
+ghost use Rattle.core_hold.specs.Event.{Event};
+ghost use Rattle.core_hold.specs.PlainOf.{plain};
+ghost use Rattle.core_hold.specs.History.{calls_of};
+ghost use Rattle.core_hold.specs.Event.TheVariants.{End};
+ghost use Rattle.core_hold.specs.State.{Core};
+ghost use Rattle.core_hold.specs.PageEvents.{flight_at};
+ghost use Rattle.core_hold.specs.EndEvent.{has_changed};
+ghost use Rattle.core_hold.specs.Coherent.{Coherent};
+ghost use Rattle.core_hold.specs.Happens.{Happens, CoreRun};
 
 /// A call that ends and has stored keeps a core coherent.
 pub fn storing_end_kept()

@@ -11,7 +11,7 @@ use Rattle.core_state.specs.State.{Flight, Core}
 use Rattle.core_state.specs.Frames.{weight, is_side, frames_of}
 use Rattle.core_state.specs.PageEvents.{spans}
 use Rattle.core_state.specs.Coherent.{Coherent}
-use Rattle.core_stores.proofs.Keeping.{Alone}
+use Rattle.system_state.proofs.CoreStoresKeeping.{Alone}
 use Rattle.system_state.specs.Jobs.{JobView}
 use Rattle.system_state.specs.Cores.{core_of}
 use Rattle.system_state.specs.Kept.{IsKept}

@@ -30,7 +30,7 @@ use Rattle.system_state.specs.Cores.{core_of, names_of, file_of as core_file}
 use Rattle.system_state.specs.declared.state.State.{State}
 use Rattle.call_checks.proofs.Found.{plain_row, plain_seen}
 use Rattle.call_checks.proofs.Refused.{file_test}
-use Rattle.system_ends.proofs.Names.{functions_same}
+use Rattle.system_begin.proofs.Names.{functions_same}
 use Rattle.system_quick.specs.Tables.{id_reply, len_reply, made_reply, create_reply, create_table, sealing, has_name, loaded, load_reply, load_functions}
 use Rattle.system_quick.proofs.Lists.{map_changed, map_without, named, changed_named, without_named}
 

@@ -43,8 +43,8 @@ use Rattle.system_state.proofs.Flash.{lanes_put}
 use Rattle.system_state.proofs.Keeping.{reported_lanes}
 use Rattle.system_state.proofs.Standing.{stands_still, stands_coherent}
 use Rattle.system_lanes.proofs.LaneRows.{lanes_kept, ended_most}
-use Rattle.system_ends.specs.Landed.{row_replied}
-use Rattle.system_ends.proofs.Facts.{row_at}
+use Rattle.system_begin.specs.Landed.{row_replied}
+use Rattle.system_begin.proofs.Facts.{row_at}
 use Rattle.system_quick.specs.Replied.{IsReplied, Asked, IsAnswered}
 
 -- what a lane sees of its own call tells what its job is told

@@ -19,7 +19,7 @@ use Rattle.system_state.specs.Stands.{IsStanding, Stands}
 use Rattle.system_state.specs.Noted.{told_more}
 use Rattle.system_state.specs.declared.lanes.Lane.{Lane as Row}
 use Rattle.system_state.specs.declared.state.State.{State}
-use Rattle.system_ends.specs.Landed.{row_replied}
+use Rattle.system_begin.specs.Landed.{row_replied}
 
 -- the lane's call has its reply and the next number, and the event was made; all else is as it was
 pub record IsReplied {D J : Type 0} (lane : ℕ) (e : Event) (s t : State D J) : Type 0 where

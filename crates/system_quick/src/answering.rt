@@ -7,7 +7,7 @@ ghost use Rattle.system_quick.specs.Replied.{IsReplied};
 
 use flash_die::Die;
 use plain_files::{Numbered, Reply, Request};
-use system_ends::reply_lane;
+use system_begin::reply_lane;
 use system_state::{CallJob, State, Told};
 use turn_cell::Note;
 

@@ -1,5 +1,5 @@
 use Rattle.std.proofs.Common.{sym, subst, refl}
-use Rattle.core_state.specs.Coherent.{Coherent}
+use Rattle.core_quick.specs.Coherent.{Coherent}
 use Rattle.core_ends.proofs.Ending.{end_keeps}
 use Rattle.core_ends.proofs.laws.plain_end_kept.Goals as goal
 

@@ -1,5 +1,5 @@
 use Rattle.std.proofs.Common.{ap, ◌∙◌}
-use Rattle.core_state.specs.PlainOf.{plain}
+use Rattle.core_quick.specs.PlainOf.{plain}
 use Rattle.core_ends.proofs.Ending.{end_stays}
 use Rattle.core_ends.proofs.laws.plain_end_stays.Goals as goal
 

@@ -1,5 +1,5 @@
 use Rattle.std.proofs.Common.{sym, subst, refl}
-use Rattle.core_state.specs.Coherent.{Coherent}
+use Rattle.core_lemmas.specs.Coherent.{Coherent}
 use Rattle.core_lanes.proofs.Beginning.{begin_keeps}
 use Rattle.core_lanes.proofs.laws.begin_kept.Goals as goal
 

@@ -1,5 +1,5 @@
 use Rattle.std.proofs.Common.{sym, subst}
-use Rattle.core_state.specs.Coherent.{Coherent}
+use Rattle.core_lemmas.specs.Coherent.{Coherent}
 use Rattle.core_lanes.proofs.Idle.{enter_keeps}
 use Rattle.core_lanes.proofs.laws.enter_kept.Goals as goal
 

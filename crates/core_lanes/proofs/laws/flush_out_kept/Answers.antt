@@ -1,5 +1,5 @@
 use Rattle.std.proofs.Common.{sym, subst, refl}
-use Rattle.core_state.specs.Coherent.{Coherent}
+use Rattle.core_lemmas.specs.Coherent.{Coherent}
 use Rattle.core_lanes.proofs.Outward.{flush_out_keeps}
 use Rattle.core_lanes.proofs.laws.flush_out_kept.Goals as goal
 

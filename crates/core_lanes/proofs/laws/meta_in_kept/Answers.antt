@@ -1,5 +1,5 @@
 use Rattle.std.proofs.Common.{sym, subst}
-use Rattle.core_state.specs.Coherent.{Coherent}
+use Rattle.core_lemmas.specs.Coherent.{Coherent}
 use Rattle.core_lanes.proofs.Metas.{meta_in_keeps}
 use Rattle.core_lanes.proofs.laws.meta_in_kept.Goals as goal
 

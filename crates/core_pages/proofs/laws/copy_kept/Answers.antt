@@ -1,5 +1,5 @@
 use Rattle.std.proofs.Common.{sym, subst, refl}
-use Rattle.core_state.specs.Coherent.{Coherent}
+use Rattle.core_lanes.specs.Coherent.{Coherent}
 use Rattle.core_pages.proofs.Copy.{copy_keeps}
 use Rattle.core_pages.proofs.laws.copy_kept.Goals as goal
 

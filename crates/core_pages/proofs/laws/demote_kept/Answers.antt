@@ -1,5 +1,5 @@
 use Rattle.std.proofs.Common.{sym, subst}
-use Rattle.core_state.specs.Coherent.{Coherent}
+use Rattle.core_lanes.specs.Coherent.{Coherent}
 use Rattle.core_pages.proofs.Idle.{demote_keeps}
 use Rattle.core_pages.proofs.laws.demote_kept.Goals as goal
 

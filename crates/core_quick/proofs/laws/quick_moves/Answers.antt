@@ -1,5 +1,5 @@
 use Rattle.std.proofs.Common.{ap, ◌∙◌}
-use Rattle.core_state.specs.PlainOf.{plain}
+use Rattle.core_lanes.specs.PlainOf.{plain}
 use Rattle.core_quick.proofs.Moves.{quick_moves}
 use Rattle.core_quick.proofs.laws.quick_moves.Goals as goal
 

@@ -1,5 +1,5 @@
 use Rattle.std.proofs.Common.{ap, ◌∙◌, inl}
-use Rattle.core_state.specs.PlainOf.{plain}
+use Rattle.core_hold.specs.PlainOf.{plain}
 use Rattle.core_ends.proofs.Ending.{end_stays}
 use Rattle.core_stores.proofs.Moving.{event_moves}
 use Rattle.core_stores.proofs.laws.end_moves.Goals as goal

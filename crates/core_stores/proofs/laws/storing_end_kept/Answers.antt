@@ -1,5 +1,5 @@
 use Rattle.std.proofs.Common.{sym, subst, refl}
-use Rattle.core_state.specs.Coherent.{Coherent}
+use Rattle.core_hold.specs.Coherent.{Coherent}
 use Rattle.core_stores.proofs.Ends.{end_keeps}
 use Rattle.core_stores.proofs.laws.storing_end_kept.Goals as goal
 
