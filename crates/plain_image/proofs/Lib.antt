@@ -1,10 +1,5 @@
 pub mod Outputs
 pub mod Keeping
 pub mod Listing
-pub mod Blocks
 pub mod Steps
-pub mod Readings
-pub mod Again
 pub mod Loaded
-pub mod Drawn
-pub mod Written

@@ -8,7 +8,7 @@ use Rattle.std.proofs.lemmas.Option.{slice_get-map}
 use Rattle.name_table.specs.Name.{is_name}
 use Rattle.name_table.specs.declared.files.FileRec.{FileRec}
 use Rattle.name_table.specs.Files as table
-use Rattle.name_table.specs.Files.{Table, IsTable, RiseFrom, IdsBelow, AreApart, file_named, has_slot}
+use Rattle.name_table.specs.Files.{Table, IsTable, AreApart, file_named}
 use Rattle.page_base.specs.Bytes.{Pages}
 use Rattle.image_format.specs.Records.{Stored}
 use Rattle.image_format.specs.Tables.{stored_of, stored_files, pages_of}
@@ -19,7 +19,7 @@ use Rattle.plain_files.specs.Plain.{State, file_of}
 use Rattle.plain_run.specs.Order as order
 use Rattle.plain_run.specs.Order.{Below}
 use Rattle.plain_image.specs.Fits.{IsFile, HaveOwnNames, Fits}
-use Rattle.plain_image.specs.Image.{stored_file}
+use Rattle.plain_image.specs.Tables.{stored_file}
 use Rattle.plain_image.proofs.Keeping.{eq_sym, none_first}
 
 -- ---- what files keep
@@ -71,29 +71,9 @@ table_listing t sound =
 
 -- ---- of a machine
 
-rise_files : (low : ℕ) (files : List PlainFile) → order.Rise low files → Rise low (map stored_file files)
-rise_files low [] rise = tt
-rise_files low (f ∷ fs) rise = (rise.0, rise_files (f.id + 1) fs rise.1)
-
-unnamed_files : (name : List ℕ) (files : List PlainFile) → file_of name files ≡ None → Unnamed name (map stored_file files)
-unnamed_files name [] none = tt
-unnamed_files name (f ∷ fs) none = let n = none_first (bytes_eq f.name name) f (file_of name fs) none in (n.0, unnamed_files name fs n.1)
-
-own_files : (files : List PlainFile) → HaveOwnNames files → OwnNames (map stored_file files)
-own_files [] own = tt
-own_files (f ∷ fs) own = (unnamed_files f.name fs own.0, own_files fs own.1)
-
-each_file : (next : ℕ) (files : List PlainFile) → Below next files → AllByRecursion IsFile files → AllByRecursion (IsStored next) (map stored_file files)
-each_file next [] below each = tt
-each_file next (f ∷ fs) below each = ((below.0, each.0.1, each.0.0), each_file next fs below.1 each.1)
-
 pub length_files : (files : List PlainFile) → length (map stored_file files) ≡ length files
 length_files [] = refl
 length_files (f ∷ fs) = ap suc (length_files fs)
-
-pub machine_listing : (blocks : ℕ) (s : State) → Fits blocks s → IsListing s.next (map stored_file s.files)
-machine_listing blocks s fits =
-    record { count = omega (arith, fits.few, length_files s.files); low = fits.order.least; high = fits.last; rise = rise_files 1 s.files fits.order.rise; own = own_files s.files fits.names; each = each_file s.next s.files fits.order.below fits.each }
 
 -- ---- back to a machine
 
@@ -187,32 +167,15 @@ ids_under id [] under k d lt = absurd (omega arith)
 ids_under id (f ∷ fs) under zero d lt = under.0
 ids_under id (f ∷ fs) under (suc k) d lt = ids_under id fs under.1 k d (omega arith)
 
-pub records_under : (id : ℕ) (files : List FileRec) → Under id (map stored_of files) → IdsBelow id files
-records_under id [] under = tt
-records_under id (f ∷ fs) under = (under.0, records_under id fs under.1)
-
-pub none_named : (name : List ℕ) (files : List FileRec) → Unnamed name (map stored_of files) → file_named name files ≡ None
-none_named name [] unnamed = refl
-none_named name (f ∷ fs) unnamed = cond-false (bytes_eq f.name name) (Some f) (file_named name fs) unnamed.0 ∙ none_named name fs unnamed.1
-
 length_front : (n : ℕ) (xs : List Stored) → n ≤ length xs → length (take n xs) ≡ n
 length_front zero xs le = refl
 length_front (suc n) [] le = absurd (omega arith)
 length_front (suc n) (x ∷ xs) le = ap suc (length_front n xs (omega arith))
 
-pub records_count : (files : List FileRec) (n : ℕ) (whole : List Stored) → map stored_of files ≡ take n whole → n ≤ length whole → length files ≡ n
-records_count files n whole is le = sym (length_records files) ∙ ap length is ∙ length_front n whole le
-
 pub files_count : (files : List PlainFile) (n : ℕ) (whole : List Stored) → map stored_file files ≡ take n whole → n ≤ length whole → length files ≡ n
 files_count files n whole is le = sym (length_files files) ∙ ap length is ∙ length_front n whole le
 
 -- ---- what stands at a place
-
-pub file_at : (files : List PlainFile) (i : ℕ) (f : PlainFile) → slice_get files i ≡ Some f → slice_get (map stored_file files) i ≡ Some (stored_file f)
-file_at files i f here = slice_get-map stored_file files i ∙ ap (option_map stored_file) here
-
-pub file_past : (files : List PlainFile) (i : ℕ) → slice_get files i ≡ None → slice_get (map stored_file files) i ≡ None
-file_past files i past = slice_get-map stored_file files i ∙ ap (option_map stored_file) past
 
 pub record_at : (files : List FileRec) (i : ℕ) (f : FileRec) → slice_get files i ≡ Some f → slice_get (map stored_of files) i ≡ Some (stored_of f)
 record_at files i f here = slice_get-map stored_of files i ∙ ap (option_map stored_of) here

@@ -12,7 +12,12 @@ use Rattle.image_laws.specs.Pages.{data_blocks}
 use Rattle.plain_image.specs.declared.drive.PlainDrive.{PlainDrive}
 use Rattle.plain_image.specs.Drives.{machine_on, drive_in, drive_of}
 use Rattle.plain_image.specs.Tables.{IsPlaced}
-use Rattle.plain_image.proofs.Readings.{same_ok}
+
+abbrev ok : {A : Type 0} → A → Result A ImageFault
+ok x = Ok x
+
+same_ok : {A : Type 0} (x y : A) → ok x ≡ ok y → x ≡ y
+same_ok x y is = cc
 
 -- meta data and data blocks that are whole are placed
 pub placed : (m : Meta) (all body : List (List ℕ)) → IsWhole m (data_blocks m all) → body ≡ data_blocks m all → IsPlaced m body

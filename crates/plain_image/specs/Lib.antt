@@ -1,6 +1,5 @@
 pub mod Fits
 pub mod Drives
-pub mod Image
 pub mod Tables
 pub mod Opened
 pub mod Spelled

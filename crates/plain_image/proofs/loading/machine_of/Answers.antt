@@ -7,8 +7,7 @@ use Rattle.plain_files.specs.declared.calls.PlainFile.{PlainFile}
 use Rattle.plain_files.specs.Plain as plain
 use Rattle.plain_files.specs.Plain.{State}
 use Rattle.plain_image.specs.Fits.{Fits}
-use Rattle.plain_image.specs.Image.{stored_file}
-use Rattle.plain_image.specs.Tables.{files_left}
+use Rattle.plain_image.specs.Tables.{stored_file, files_left}
 use Rattle.plain_image.proofs.Listing.{IsListing, Under, Unnamed, table_listing, listing_fits, next_file, record_at, record_past, all_under, ids_under, none_of_name, files_count, take_whole, pages_within, pages_next, pages_same}
 use Rattle.plain_image.proofs.Steps.{file_pushed, files_done, file_listed, machine_is}
 use Rattle.plain_image.proofs.loading.machine_of.Goals as goal

@@ -2,8 +2,7 @@ use Rattle.std.proofs.Common.{◌≡◌, ◌-◌, ◌++◌, [], length, take, ma
 use Rattle.image_format.specs.Tables.{stored_files, pages_of}
 use Rattle.image_format.specs.Whole.{stands_for}
 use Rattle.plain_image.specs.Drives.{plain_file}
-use Rattle.plain_image.specs.Image.{stored_file}
-use Rattle.plain_image.specs.Tables.{files_left}
+use Rattle.plain_image.specs.Tables.{stored_file, files_left}
 use Rattle.plain_image.proofs.loading.machine_of.Given as goal
 
 abbrev pub invariant-loop-file : goal.invariant-loop-file
