@@ -23,7 +23,7 @@ use Rattle.core_plans.specs.Lines.{FailAsTold}
 use Rattle.core_plans.proofs.Unfaulted.{same_unfaulted}
 use Rattle.system_metas.specs.Encode.{encode}
 use Rattle.mounted_systems.specs.Dealt.{opening_of}
-use Rattle.solo_drives.specs.Lines.{script_of}
+use Rattle.drive_runs.specs.Lines.{script_of}
 use Rattle.bench_runs.specs.Benched.{bench_lines, HasBenched}
 
 -- so many calls that found memory

@@ -16,8 +16,8 @@ use Rattle.lane_logs.specs.declared.logs.LaneLog.{LaneLog}
 use Rattle.lane_logs.specs.Logs.{AreLogs}
 use Rattle.log_text.specs.Told.{IsTold}
 use Rattle.log_text.proofs.Lanes.{lanes_are_there}
-use Rattle.solo_drives.specs.declared.running.DriveRun.{DriveRun}
-use Rattle.solo_drives.specs.Runs.{HasRunDrive}
+use Rattle.drive_runs.specs.declared.running.DriveRun.{DriveRun}
+use Rattle.drive_runs.specs.Runs.{HasRunDrive}
 use Rattle.bench_runs.specs.Fed.{are_fed}
 use Rattle.bench_runs.specs.Benched.{bench_lines, HasBenched}
 use Rattle.bench_runs.proofs.Memory.{calls_fed}

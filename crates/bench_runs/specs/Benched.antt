@@ -11,8 +11,8 @@ use Rattle.bench_script.specs.Digest.{digest_line}
 use Rattle.core_state.specs.State.{Page}
 use Rattle.core_state.specs.History.{Counts, calls_of, counts_of}
 use Rattle.core_solo.specs.Served.{AreFed}
-use Rattle.solo_drives.specs.declared.running.DriveRun.{DriveRun}
-use Rattle.solo_drives.specs.Runs.{HasRunDrive}
+use Rattle.drive_runs.specs.declared.running.DriveRun.{DriveRun}
+use Rattle.drive_runs.specs.Runs.{HasRunDrive}
 
 -- The two lines of calls over lanes with these names, and of these counts: the start and the number of drawn lines of their script, the number
 -- of replies and the digest of the reply lines; and the line of places.

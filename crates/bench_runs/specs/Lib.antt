@@ -1,2 +1,11 @@
 pub mod Fed
 pub mod Benched
+pub use Rattle.lane_logs.specs.declared.logs.LaneLog
+pub use Rattle.lane_logs.specs.Logs
+pub use Rattle.drive_runs.specs.Lines
+pub use Rattle.drive_runs.specs.declared.running.DriveImage
+pub use Rattle.drive_runs.specs.declared.running.DriveRun
+pub use Rattle.drive_runs.specs.Runs
+pub use Rattle.drive_runs.specs.declared.crew.CrewErr
+pub use Rattle.drive_runs.specs.Crews
+pub use Rattle.drive_runs.specs.Begun

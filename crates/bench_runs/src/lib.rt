@@ -6,4 +6,5 @@ pub mod laws;
 mod lines;
 mod run;
 
+pub use drive_runs::{CrewErr, DriveImage, DriveRun, run_crew, run_drive};
 pub use run::bench_lines;

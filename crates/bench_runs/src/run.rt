@@ -13,11 +13,11 @@ use crate::fed::are_fed;
 use crate::lines::lines_of;
 use command_words::DieKind;
 use dispatcher::Place;
+use drive_runs::run_drive;
 use edge_io::Text;
 use image_format::Meta;
 use page_base::{NoMemory, Page};
 use script_words::Script;
-use solo_drives::run_drive;
 use std::alloc::{AllocError, Global};
 
 /// What `bench` prints of a script over the drive of an image: the script is run on one thread over dies in raw flash, its functions where the

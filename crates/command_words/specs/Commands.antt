@@ -159,6 +159,14 @@ abbrev pub asked_run : Option Run → Option Command
 asked_run None = None
 asked_run (Some asked) = Some (command.Run asked)
 
+-- the words `scan IMAGE FILE OBJ CHUNK FUEL CAP PARAM`
+abbrev pub scan_named : List ℕ → List (List ℕ) → Option Scan
+scan_named verb rest = if bytes_eq verb (codes "scan") then scan_of rest else None
+
+abbrev pub scan_command : List (List ℕ) → Option Scan
+scan_command [] = None
+scan_command (verb ∷ rest) = scan_named verb rest
+
 -- the command of a first word and those behind it
 abbrev pub command_named : List ℕ → List (List ℕ) → Option Command
 command_named verb rest =

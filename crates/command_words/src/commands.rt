@@ -1,7 +1,7 @@
 //! The words and their command.
 ghost use Rattle.std.specs.Prelude.{◌≡◌, map, string_bytes, IfOk, OnErr, IsSome};
 ghost use Rattle.command_words.specs.Places.{param_of};
-ghost use Rattle.command_words.specs.Commands.{pieces_of, scan_with, scan_of, run_named, run_of, quiet_named, quiet_of, asked_quiet, asked_scan, asked_run, command_named, command_of};
+ghost use Rattle.command_words.specs.Commands.{scan_with, scan_of, scan_command, run_named, run_of, quiet_named, quiet_of, asked_quiet, asked_scan, asked_run, command_named, command_of};
 
 use crate::command::{Command, Quiet, Run, Scan};
 use crate::options::{Crew, Setup, run_options};
@@ -15,7 +15,7 @@ use crate::quiet::{
 use std::alloc::{AllocError, Global};
 
 // No word is judged here.
-fn scan_named(
+fn named_scan(
     alloc: Global,
     image: &str,
     file: &str,
@@ -57,7 +57,7 @@ fn scan_with(
     let Some(param) = param_of(alloc, param.as_bytes())? else {
         return Ok(None);
     };
-    Ok(Some(scan_named(alloc, image, file, object, pieces, param)?))
+    Ok(Some(named_scan(alloc, image, file, object, pieces, param)?))
 }
 
 fn scan_of(alloc: Global, words: &[String]) -> Result<Option<Scan>, AllocError>
@@ -153,6 +153,21 @@ pub fn quiet_of(alloc: Global, words: &[String]) -> Result<Option<Quiet>, AllocE
         return Ok(None);
     };
     quiet_named(alloc, verb.as_str(), rest)
+}
+
+/// The words `scan IMAGE FILE OBJ CHUNK FUEL CAP PARAM`. None where the words are others, for which no memory is
+/// wanted.
+pub fn scan_command(alloc: Global, words: &[String]) -> Result<Option<Scan>, AllocError>
+    ensures ok { IfOk result (λ command. command ≡ scan_command (map string_bytes words.now)) }
+    ensures err { OnErr result (IsSome (scan_command (map string_bytes words.now))) }
+{
+    let [verb, rest @ ..] = words else {
+        return Ok(None);
+    };
+    match verb.as_str() {
+        "scan" => scan_of(alloc, rest),
+        _ => Ok(None),
+    }
 }
 
 #[tactic(auto, using(crate::proofs::Asked::quiet_asked))]

@@ -11,7 +11,7 @@ mod places;
 mod quiet;
 
 pub use command::{Command, Quiet, Run, Scan};
-pub use commands::{command_of, quiet_of};
+pub use commands::{command_of, quiet_of, scan_command};
 pub use options::{Crew, DieKind, Setup};
 pub use params::Param;
 pub use pieces::Pieces;

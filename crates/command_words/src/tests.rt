@@ -1,4 +1,4 @@
-use crate::{Command, Crew, DieKind, Quiet, Setup, command_of, quiet_of};
+use crate::{Command, Crew, DieKind, Quiet, Setup, command_of, quiet_of, scan_command};
 use dispatcher::Place;
 use std::alloc::{AllocError, Global};
 use std::test::Fail;
@@ -133,5 +133,23 @@ fn options_stand_in_any_order(rt: HostRuntime) -> Result<(), Fail> {
         )?,
         Some((other, crew))
     );
+    Ok(())
+}
+
+#[test]
+fn a_scan_has_its_numbers(rt: HostRuntime) -> Result<(), Fail> {
+    let alloc = rt.alloc();
+    let words = words_of(alloc, "scan img log L 1 4294967296 4096 hex:00fFAb")?;
+    let Some(scan) = scan_command(alloc, &words)? else {
+        return Err("no scan")?;
+    };
+    assert_eq!(rt; scan.file.as_str(), "log");
+    assert_eq!(rt;
+        (scan.pieces.chunk(), scan.pieces.fuel(), scan.pieces.cap()),
+        (1, 4_294_967_296, 4096)
+    );
+    assert_eq!(rt; scan.param.bytes().as_slice(), [0, 255, 171].as_slice());
+    let words = words_of(alloc, "verify O")?;
+    assert!(rt; scan_command(alloc, &words)?.is_none());
     Ok(())
 }

@@ -5,4 +5,4 @@ mod calls;
 mod hands;
 
 pub use calls::{data_answer, lambda_answer, quick_answer, sync_answer};
-pub use hands::{do_work, make_call};
+pub use hands::CallHands;

@@ -1,9 +1,10 @@
 -- A turn without an event tells its pass that it has seen all that it made.
-use Rattle.std.proofs.Common.{◌≡◌, Bool, true, false, List, [], ◌++◌, refl, sym, subst}
+use Rattle.std.proofs.Common.{◌≡◌, Bool, true, false, List, [], ◌++◌, map, refl, sym, ap, ◌∙◌, subst, append-nil}
 use Rattle.std.specs.declared.snapshot.Snapshot.{Snapshot}
 use Rattle.turn_cell.specs.declared.book.Entry.{Entry}
 use Rattle.turn_cell.specs.declared.view.View.{View}
-use Rattle.turn_cell.specs.History.{entries_of}
+use Rattle.turn_cell.specs.Events.{events_of}
+use Rattle.turn_cell.specs.History.{entry, entries_of}
 use Rattle.turn_cell.specs.Steps.{Sees, SeesAllowed, Others, IsStood, seeing}
 use Rattle.flash_die.specs.Dies.{DieView}
 use Rattle.core_state.specs.declared.actor.Actor.{Actor}
@@ -36,6 +37,11 @@ module _ {S : Type 0} (core : S → Core) where
 
   pub looked_closing : (o : Snapshot S) (v w : View (Snapshot S) Event) (b : Bool) → Turn core o v w (ClosingSays b) → b ≡ true → IsClosing (core_seen core o w)
   looked_closing o v w b t is = subst IsClosing (sym (still o v w b t)) (t.says.closes is)
+
+  pub looked_run : (o : Snapshot S) (v w : View (Snapshot S) Event) (b : Bool) → Turn core o v w (ClosingSays b) → CoreRun (core o.value) (events_of w.seen) (core_seen core o w)
+  looked_run o v w b t =
+      let same : w.seen ≡ v.seen ++ t.between = t.seen ∙ (ap (λ (es : List Event). (v.seen ++ t.between) ++ map (entry v.number) es) t.says.are ∙ append-nil (v.seen ++ t.between)) in
+      subst (λ (h : List (Entry Event)). CoreRun (core o.value) (events_of h) (core_after core o h)) (sym same) t.begins
 
   pub looked_kept : (o : Snapshot S) (v w : View (Snapshot S) Event) (b : Bool) → Turn core o v w (ClosingSays b) → (a : Actor) → ActsFor core o v a → IsItsOwn (core_seen core o v) a → StillHolds core o v w a
   looked_kept o v w b t a acts own =

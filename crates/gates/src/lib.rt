@@ -2,7 +2,7 @@
 #![tactic(auto)]
 
 /// It is called without the turn, so that it may wait. It can't reach the system, and answers nothing.
-pub trait Gate: Sync {
+pub trait Gate {
     /// The function of this lane's call is about to run.
     fn before_run(&self, lane: u32);
 

@@ -2,6 +2,7 @@
 #![tactic(auto)]
 
 use edge_io::{HostRoom, StdSink};
+use gates::OpenGate;
 use stack_top::{Status, stack_main};
 use std::io::ErrorKind;
 use std::process::ExitCode;
@@ -23,6 +24,6 @@ fn main(rt: HostRuntime) -> ExitCode {
     };
     let mut room = HostRoom::new(&rt);
     let mut out = StdSink::new(&rt);
-    let status = stack_main(rt.alloc(), &words, &mut room, &mut out);
+    let status = stack_main(rt.alloc(), &rt, &words, &mut room, &mut out, &OpenGate);
     ExitCode::from(status.code())
 }

@@ -18,7 +18,7 @@ pub fn run_posts<
     D: Die + Send,
     J: CallJob + Send,
     R: Threads + Wait + Sync,
-    G: Gate,
+    G: Gate + Sync,
     H: Hands<D, J, R, G>,
 >(rt: &R, turn: &Turn<System<D, J>>, gate: &G, hands: &H, posts: &mut [Post<D, J>])
     requires { All (λ p. IsReady D.seen turn.now p) posts.old }

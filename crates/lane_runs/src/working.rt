@@ -25,7 +25,7 @@ pub fn work_all<
     D: Die + Send,
     J: CallJob + Send,
     R: Threads + Wait + Sync,
-    G: Gate,
+    G: Gate + Sync,
     H: Hands<D, J, R, G>,
 >(
     rt: &R,

@@ -14,3 +14,4 @@ pub use line_calls::LineCalls;
 pub use making::make_run;
 pub use run::{Ran, run_over};
 pub use settling::Settled;
+pub use turns::stored_settles;

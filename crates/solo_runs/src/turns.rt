@@ -8,7 +8,7 @@ ghost use Rattle.name_table.specs.Files.{IsTable};
 ghost use Rattle.core_solo.specs.Stored.{IsAllStored};
 ghost use Rattle.system_state.specs.Cores.{core_of};
 ghost use Rattle.system_state.specs.Settled.{Settled as IsAllSettled};
-ghost use Rattle.system_state.specs.Stands.{Stands};
+ghost use Rattle.system_state.specs.Stands.{IsStanding, Stands};
 ghost use Rattle.system_metas.specs.Encode.{encode};
 ghost use Rattle.settling.specs.Books.{opening_in};
 
@@ -46,6 +46,16 @@ fn look(meta: &Meta)
     let _sound = meta.extents.blocks();
 }
 
+/// A system that stands for some history is settled where all is stored, no call is in flight and all dies are at home.
+pub fn stored_settles<D: Die, J: CallJob>(system: &System<D, J>)
+    requires { IsStanding D.seen J.suits system.now.state }
+    ensures { IsAllStored encode (core_of D.seen system.now.state) → ((lane : ℕ) → (core_of D.seen system.now.state).calls lane ≡ None) →
+        ((die : ℕ) → ((core_of D.seen system.now.state).dies die).out ≡ None) → IsAllSettled D.seen system.now.state }
+{
+    stored_states_settle::<D, J>();
+    look(&system.state.meta);
+}
+
 /// The turn ends. The system stands for its whole history, and is settled where all is stored, no call is in flight and all dies are at home.
 pub(crate) fn close_turn<D: Die, J: CallJob>(alone: Alone<System<D, J>>) -> Closed<System<D, J>>
     requires free { IsFreeAlone opening_in alone }
@@ -54,8 +64,7 @@ pub(crate) fn close_turn<D: Die, J: CallJob>(alone: Alone<System<D, J>>) -> Clos
     ensures settles { IsAllStored encode (core_of D.seen result.book.state) → ((lane : ℕ) → (core_of D.seen result.book.state).calls lane ≡ None) →
         ((die : ℕ) → ((core_of D.seen result.book.state).dies die).out ≡ None) → IsAllSettled D.seen result.book.state }
 {
-    stored_states_settle::<D, J>();
     let closed = alone.close();
-    look(&closed.book.state.meta);
+    stored_settles(&closed.book);
     closed
 }

@@ -32,8 +32,8 @@ use Rattle.core_solo.specs.Served.{AreFed}
 use Rattle.system_metas.specs.Encode.{encode}
 use Rattle.system_state.specs.Settled.{mounted_of}
 use Rattle.mounted_systems.specs.Dealt.{opening_of}
-use Rattle.solo_drives.specs.Lines.{script_of}
-use Rattle.solo_drives.specs.declared.running.DriveRun.{DriveRun}
+use Rattle.bench_runs.specs.Lines.{script_of}
+use Rattle.bench_runs.specs.DriveRun.{DriveRun}
 use Rattle.bench_runs.specs.Benched.{bench_lines, HasBenched}
 use Rattle.bench_runs.proofs.Benched.{one_run}
 use Rattle.bench_runs.proofs.Drawn.{no_faults}

@@ -1,6 +1,7 @@
 -- Runs of scripts without `fault` lines.
-use Rattle.std.proofs.Common.{◌≡◌, inl, inr, ℕ, ◌+◌, List, [], ◌∷◌, ◌++◌, length, true, false, Option, Some, None, refl, ap, ◌∙◌, sym, subst, arith}
+use Rattle.std.proofs.Common.{◌≡◌, inl, inr, List, [], ◌∷◌, ◌++◌, length, true, false, Option, Some, None, refl, ap, ◌∙◌, sym, subst, arith}
 use Rattle.std.specs.Prelude.{is_some}
+use Rattle.command_words.specs.declared.options.DieKind.{DieKind}
 use Rattle.std.proofs.lemmas.List.{length-map}
 use Rattle.script_words.specs.declared.script.FaultLine.{FaultLine}
 use Rattle.script_words.specs.declared.script.Lane.{Lane}
@@ -12,12 +13,13 @@ use Rattle.core_state.specs.declared.event.Event.{Event}
 use Rattle.core_state.specs.declared.event.Event.TheVariants.{FlushIn, MetaIn}
 use Rattle.core_state.specs.State.{Core}
 use Rattle.core_state.specs.Coherent.{Coherent}
+use Rattle.core_state.specs.Happens.{CoreRun}
 use Rattle.core_state.specs.History.{calls_of, failures}
 use Rattle.core_state.specs.PlainOf.{plain}
 use Rattle.core_solo.specs.Alone.{OpeningFrames}
 use Rattle.core_solo.specs.Settling.{IsFresh}
 use Rattle.core_solo.specs.Solo.{SoloRun}
-use Rattle.core_solo.specs.Served.{AreFed, line_calls}
+use Rattle.core_solo.specs.Served.{line_calls}
 use Rattle.core_solo.proofs.Exact.{run_exact}
 use Rattle.core_solo.proofs.Whole.{run_follows}
 use Rattle.core_solo.proofs.Serving.{follow_calls}
@@ -27,12 +29,12 @@ use Rattle.core_plans.specs.Lines.{FailAsTold}
 use Rattle.core_plans.proofs.Unfaulted.{none_fail, none_lost}
 use Rattle.system_metas.specs.Encode.{encode}
 use Rattle.mounted_systems.specs.Dealt.{opening_of}
-use Rattle.solo_drives.specs.Lines.{script_of}
-use Rattle.solo_drives.specs.Runs.{LastSyncFails}
+use Rattle.bench_runs.specs.Lines.{script_of}
+use Rattle.bench_runs.specs.Runs.{LastSyncFails}
 use Rattle.stack_top.specs.declared.plan.Plan.{Plan}
 use Rattle.stack_top.specs.declared.refusal.Refusal.{Refusal}
 use Rattle.stack_top.specs.declared.refusal.Refusal.TheVariants as refused
-use Rattle.stack_top.specs.Choices.{Running, Ran, EndsAs}
+use Rattle.stack_top.specs.Choices.{Running, RanBy, InLineOrder, EndsAs}
 use Rattle.stack_top.specs.Endings.{FaultlessRunsEnd, FaultlessRunsAreExact}
 
 -- a failed write of the closer counts
@@ -50,23 +52,33 @@ sync_spared : (events : List Event) → failures events ≡ 0 → LastSyncFails 
 sync_spared events none fails =
     last_counts fails.0 fails.1 fails.3 (sym (ap failures fails.2) ∙ none)
 
-nothing_fails : (run : Running) (plan : Plan) → run.script.faults ≡ [] → (ran : Ran run plan) → failures ran.events ≡ 0
-nothing_fails run plan faultless ran =
-    let P : List FaultLine → Type 0 = λ lines. FailAsTold run.dies lines ran.events in
-    none_fail ran.first ran.last run.dies ran.events ran.opens.coherent ran.made.run (subst P faultless ran.failed)
+nothing_fails : (first last : Core) (kind : DieKind) (lines : List FaultLine) (events : List Event) → lines ≡ [] → Coherent first → CoreRun first events last → FailAsTold kind lines events → failures events ≡ 0
+nothing_fails first last kind lines events faultless coherent run failed =
+    let P : List FaultLine → Type 0 = λ ls. FailAsTold kind ls events in
+    none_fail first last kind events coherent run (subst P faultless failed)
 
-pub faultless_runs_end : FaultlessRunsEnd
-faultless_runs_end run plan faultless ran = by_ending plan.ending ran.ending
+run_ends : (makes : Core → List Event → Core → Type 0) (run : Running) (plan : Plan) → run.script.faults ≡ [] → (ran : RanBy makes run plan) → CoreRun ran.first ran.events ran.last → plan.ending ≡ None
+run_ends makes run plan faultless ran made = by_ending plan.ending ran.ending
   where
     by_ending : (ending : Option Refusal) → EndsAs run ran.events ending → ending ≡ None
     by_ending None is = refl
     by_ending (Some refused.DriveFault) is =
         let P : List FaultLine → Type 0 = λ lines. IsLost run.dies lines run.opened.drive.geometry ran.events true in
         elim is.1 [
-          | inl fails ↦ absurd (sync_spared ran.events (nothing_fails run plan faultless ran) fails)
+          | inl fails ↦
+              absurd (sync_spared ran.events (nothing_fails ran.first ran.last run.dies run.script.faults ran.events faultless ran.opens.coherent made ran.failed) fails)
           | inr lost ↦ absurd (none_lost run.dies run.opened.drive.geometry ran.events (subst P faultless lost))
         ]
     by_ending (Some refusal) is = absurd is
+
+pub faultless_runs_end : FaultlessRunsEnd
+faultless_runs_end = record {
+  alone = λ run plan faultless ran. run_ends (InLineOrder run) run plan faultless ran ran.made.run;
+  at_once = λ run plan faultless is. elim is [
+    | inl ran ↦ inl (run_ends CoreRun run plan faultless ran ran.made)
+    | inr worn ↦ inr worn.ending
+  ];
+}
 
 pub faultless_runs_are_exact : FaultlessRunsAreExact
 faultless_runs_are_exact run plan faultless ran fed =
@@ -78,6 +90,6 @@ faultless_runs_are_exact run plan faultless ran fed =
     let wide : length (requests run.script) ≡ first.shape.lanes = length-map run.script.lanes (λ (lane : Lane). lane.requests) in
     let fresh : IsFresh first = record { still = λ l. refl; home = λ die. refl; closer = omega arith } in
     let same : plain first ≡ run.opened.drive.plain = sym (ap plain ran.opens.core) ∙ ran.opens.same in
-    run_exact first ran.last ran.events coherent (λ lane. refl) made.run (nothing_fails run plan faultless ran) fed
+    run_exact first ran.last ran.events coherent (λ lane. refl) made.run (nothing_fails first ran.last run.dies run.script.faults ran.events faultless coherent made.run ran.failed) fed
     ∙ ap (replies (plain first)) (follow_calls (script_of run.script) run.script.order (calls_of ran.events) (run_follows encode first ran.last (script_of run.script) (is_some run.out) ran.events frames wide coherent fresh made))
     ∙ ap (λ (s : State). replies s (line_calls (script_of run.script) run.script.order)) same

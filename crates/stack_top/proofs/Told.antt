@@ -19,29 +19,32 @@ use Rattle.plain_files.specs.Plain.{State, Function}
 use Rattle.plain_files.specs.History.{Entry, Legal, Serves}
 use Rattle.log_text.specs.Told.{IsTold}
 use Rattle.log_text.proofs.Lanes.{lanes_are_there}
-use Rattle.solo_drives.specs.LaneLogs.{LaneLog}
-use Rattle.solo_drives.specs.Logs.{AreLogs}
+use Rattle.bench_runs.specs.LaneLog.{LaneLog}
+use Rattle.bench_runs.specs.Logs.{AreLogs}
 use Rattle.plain_image.specs.declared.drive.PlainDrive.{PlainDrive}
 use Rattle.plain_image.specs.Drives.{plain_file, machine_on, drive_in, drive_of}
 use Rattle.plain_image.specs.Opened.{Opened, opened}
 use Rattle.core_state.specs.declared.event.Event.{Event}
 use Rattle.core_state.specs.State.{Page, Core}
+use Rattle.core_state.specs.Coherent.{Coherent}
 use Rattle.core_state.specs.History as history
-use Rattle.core_state.specs.History.{calls_of, counts_of}
+use Rattle.core_state.specs.History.{calls_of, counts_of, faults}
 use Rattle.core_state.specs.PlainOf.{plain}
+use Rattle.core_plans.specs.Lines.{FailAsTold}
 use Rattle.core_solo.specs.Solo.{SoloRun}
+use Rattle.fault_lines.specs.Lines.{distinct_lines}
 use Rattle.system_metas.specs.Encode.{encode}
 use Rattle.system_state.specs.Settled.{mounted_file, mounted_of}
 use Rattle.mounted_systems.specs.Dealt.{opening_of}
-use Rattle.solo_drives.specs.Lines.{script_of}
-use Rattle.solo_drives.specs.declared.running.DriveImage.{DriveImage}
-use Rattle.solo_drives.specs.declared.running.DriveImage.TheVariants.{NotAsked, Whole, Lost}
-use Rattle.solo_drives.specs.declared.running.DriveRun.{DriveRun}
-use Rattle.solo_drives.specs.Runs.{IsStoredImage, IsGathered, HasRunDrive}
+use Rattle.bench_runs.specs.Lines.{script_of}
+use Rattle.bench_runs.specs.DriveImage.{DriveImage}
+use Rattle.bench_runs.specs.DriveImage.TheVariants.{NotAsked, Whole, Lost}
+use Rattle.bench_runs.specs.DriveRun.{DriveRun}
+use Rattle.bench_runs.specs.Runs.{IsStoredImage, IsGathered, HasRunFrom, HasRunDrive}
 use Rattle.stack_top.specs.declared.acts.Act.TheVariants as act
 use Rattle.stack_top.specs.declared.plan.Plan.{Plan}
 use Rattle.stack_top.specs.Acts.{name_of}
-use Rattle.stack_top.specs.Choices.{Running, Ran, AreOfRun, EndsAs, unless_refused, printed_counts, transcript_of}
+use Rattle.stack_top.specs.Choices.{Running, RanBy, InLineOrder, Ran, IsOpening, AreOfRun, EndsAs, unless_refused, printed_counts, transcript_of}
 use Rattle.stack_top.specs.Images.{IsImageOf}
 use Rattle.stack_top.specs.Runs.{plan_told}
 use Rattle.stack_top.specs.Works.{Allows, runs_on}
@@ -132,46 +135,108 @@ counts_same host drive reads writes c h d r w = λ i. record { host = h i; drive
 
 -- ---- the plan
 
--- a plan is that of a run with these events
-pub record IsRanBy (run : Running) (plan : Plan) (events : List Event) : Type 0 where
-  pub ran : Ran run plan
+-- a plan is that of a run with these events, which were made in some way
+pub record IsRanBy (makes : Core → List Event → Core → Type 0) (run : Running) (plan : Plan) (events : List Event) : Type 0 where
+  pub ran : RanBy makes run plan
   pub same : ran.events ≡ events
 
+-- what runs of both kinds tell of their events, from an opening core to a last one
+pub record IsRunOf (first : Core) (geometry : Drive) (script : Script) (dies : DieKind) (stores : Bool) (r : DriveRun) (events : List Event) (last : Core) : Type 0 where
+  pub coherent : Coherent first
+  pub failed : FailAsTold dies script.faults events
+  pub legal : Legal (plain first) (calls_of events) (plain last)
+  pub serves : Serves (requests script) (calls_of events)
+  pub few : faults (calls_of events) ≤ distinct_lines script.faults
+  pub host : r.places.host ≡ (counts_of events).host
+  pub drive : r.places.drive ≡ (counts_of events).drive
+  pub reads : r.places.reads ≡ (counts_of events).reads
+  pub writes : r.places.writes ≡ (counts_of events).writes
+  pub image : IsGathered dies script.faults geometry stores events last r.image
+
+-- the core is the opening core of an image that was opened
+pub opening_told : (bytes : List ℕ) (drive : PlainDrive) (meta : Meta) (pages : List Page) (run : Running)
+    → run.opened ≡ opened bytes drive → Mounts bytes meta pages (read_image bytes) → drive_of bytes ≡ Ok drive
+    → mounts_to bytes ≡ Ok (mounted_of (plain (opening_of meta pages (length run.script.lanes) run.place)))
+    → Coherent (opening_of meta pages (length run.script.lanes) run.place)
+    → IsOpening run (opening_of meta pages (length run.script.lanes) run.place)
+opening_told bytes drive meta pages run over mounts is told coherent =
+    let first : Core = opening_of meta pages (length run.script.lanes) run.place in
+    let same : IsSameDrive meta (plain first) drive = drive_opened bytes meta pages drive (plain first) mounts is told refl refl in
+    let Mounted : Opened → Type 0 = λ o. Mounts o.bytes meta pages (read_image o.bytes) in
+    let Same : Opened → Type 0 = λ o. plain first ≡ o.drive.plain in
+    record {
+      meta = meta;
+      pages = pages;
+      mounted = subst Mounted (sym over) mounts;
+      core = refl;
+      coherent = coherent;
+      same = subst Same (sym over) same.state;
+    }
+
+-- the plan of a run whose events were made in some way
+pub ran_by : (makes : Core → List Event → Core → Type 0) (bytes : List ℕ) (drive : PlainDrive) (meta : Meta) (pages : List Page) (script : Script) (name : List ℕ) (setup : Setup) (stores : Bool) (r : DriveRun) (events : List Event) (last : Core) (text : List ℕ)
+    → Mounts bytes meta pages (read_image bytes) → drive_of bytes ≡ Ok drive
+    → mounts_to bytes ≡ Ok (mounted_of (plain (opening_of meta pages (length script.lanes) setup.place)))
+    → stores ≡ is_some (name_of name) → IsRunOf (opening_of meta pages (length script.lanes) setup.place) meta.geometry script setup.dies stores r events last
+    → makes (opening_of meta pages (length script.lanes) setup.place) events last
+    → text ≡ print (names script) (calls_of events) (record { host = r.places.host; drive = r.places.drive; reads = r.places.reads; writes = r.places.writes })
+    → IsRanBy makes (record { opened = opened bytes drive; script = script; out = name_of name; place = setup.place; dies = setup.dies }) (plan_told name text r.image) events
+ran_by makes bytes drive meta pages script name setup stores r events last text mounts is told asked ran made printed =
+    let first : Core = opening_of meta pages (length script.lanes) setup.place in
+    let run : Running = record { opened = opened bytes drive; script = script; out = name_of name; place = setup.place; dies = setup.dies } in
+    let same : IsSameDrive meta (plain first) drive = drive_opened bytes meta pages drive (plain first) mounts is told refl refl in
+    let Begins : State → Type 0 = λ s. Legal s (calls_of events) (plain last) in
+    let Gathered : Bool → Type 0 = λ b. IsGathered setup.dies script.faults meta.geometry b events last r.image in
+    let On : Drive → Type 0 = λ d. IsGathered setup.dies script.faults d (is_some (name_of name)) events last r.image in
+    let gathered : On drive.geometry = subst On same.sizes (subst Gathered asked ran.image) in
+    let spelled : text ≡ transcript_of run events =
+    printed ∙ ap (print (names script) (calls_of events)) (counts_same r.places.host r.places.drive r.places.reads r.places.writes (counts_of events) ran.host ran.drive ran.reads ran.writes) in
+    let named : (other : List ℕ) → name_of name ≡ Some other → name ≡ other = λ other there. name_there (bytes_eq name (codes "-")) name other there in
+    let Acts : List ℕ → Type 0 = λ t. AreOfRun (unless_refused (plan_told name text r.image).ending (name_of name)) t drive.geometry (plain last) (plan_told name text r.image).acts in
+    record {
+      ran = record {
+        first = first;
+        events = events;
+        last = last;
+        opens = opening_told bytes drive meta pages run refl mounts is told ran.coherent;
+        legal = subst Begins same.state ran.legal;
+        serves = ran.serves;
+        few = ran.few;
+        made = made;
+        failed = ran.failed;
+        ending = ending_told (opened bytes drive) script setup.place setup.dies name (name_of name) events last text r.image gathered;
+        acts = subst Acts spelled (acts_told setup.dies script drive.geometry name (name_of name) events last text r.image named gathered);
+      };
+      same = refl;
+    }
+
+solo_run : (first : Core) (geometry : Drive) (script : Script) (dies : DieKind) (stores : Bool) (r : DriveRun) (ran : HasRunFrom first geometry script dies stores r) → IsRunOf first geometry script dies stores r ran.events ran.core
+solo_run first geometry script dies stores r ran = record {
+  coherent = ran.coherent;
+  failed = ran.failed;
+  legal = ran.legal;
+  serves = ran.serves;
+  few = ran.few;
+  host = ran.host;
+  drive = ran.drive;
+  reads = ran.reads;
+  writes = ran.writes;
+  image = ran.image;
+}
+
+-- the plan of a run on one thread
 pub ran_told : (bytes : List ℕ) (drive : PlainDrive) (meta : Meta) (pages : List Page) (script : Script) (name : List ℕ) (setup : Setup) (stores : Bool) (r : DriveRun) (text : List ℕ)
     → Mounts bytes meta pages (read_image bytes) → drive_of bytes ≡ Ok drive
     → mounts_to bytes ≡ Ok (mounted_of (plain (opening_of meta pages (length script.lanes) setup.place)))
     → stores ≡ is_some (name_of name) → (ran : HasRunDrive meta pages script setup.place setup.dies stores r)
     → text ≡ print (names script) (calls_of ran.events) (record { host = r.places.host; drive = r.places.drive; reads = r.places.reads; writes = r.places.writes })
-    → IsRanBy (record { opened = opened bytes drive; script = script; out = name_of name; place = setup.place; dies = setup.dies }) (plan_told name text r.image) ran.events
+    → IsRanBy (InLineOrder (record { opened = opened bytes drive; script = script; out = name_of name; place = setup.place; dies = setup.dies })) (record { opened = opened bytes drive; script = script; out = name_of name; place = setup.place; dies = setup.dies }) (plan_told name text r.image) ran.events
 ran_told bytes drive meta pages script name setup stores r text mounts is told asked ran printed =
     let first : Core = opening_of meta pages (length script.lanes) setup.place in
     let run : Running = record { opened = opened bytes drive; script = script; out = name_of name; place = setup.place; dies = setup.dies } in
-    let same : IsSameDrive meta (plain first) drive = drive_opened bytes meta pages drive (plain first) mounts is told refl refl in
-    let Begins : State → Type 0 = λ s. Legal s (calls_of ran.events) (plain ran.core) in
     let Made : Bool → Type 0 = λ b. SoloRun encode first (script_of script) b ran.events ran.core in
-    let Gathered : Bool → Type 0 = λ b. IsGathered setup.dies script.faults meta.geometry b ran.events ran.core r.image in
-    let On : Drive → Type 0 = λ d. IsGathered setup.dies script.faults d (is_some (name_of name)) ran.events ran.core r.image in
-    let gathered : On drive.geometry = subst On same.sizes (subst Gathered asked ran.image) in
-    let spelled : text ≡ transcript_of run ran.events =
-    printed ∙ ap (print (names script) (calls_of ran.events)) (counts_same r.places.host r.places.drive r.places.reads r.places.writes (counts_of ran.events) ran.host ran.drive ran.reads ran.writes) in
-    let named : (other : List ℕ) → name_of name ≡ Some other → name ≡ other = λ other there. name_there (bytes_eq name (codes "-")) name other there in
-    let Acts : List ℕ → Type 0 = λ t. AreOfRun (unless_refused (plan_told name text r.image).ending (name_of name)) t drive.geometry (plain ran.core) (plan_told name text r.image).acts in
-    record {
-      ran = record {
-        first = first;
-        events = ran.events;
-        last = ran.core;
-        opens = record { meta = meta; pages = pages; mounted = mounts; core = refl; coherent = ran.coherent; same = same.state };
-        legal = subst Begins same.state ran.legal;
-        serves = ran.serves;
-        few = ran.few;
-        made = subst Made asked ran.run;
-        failed = ran.failed;
-        ending = ending_told (opened bytes drive) script setup.place setup.dies name (name_of name) ran.events ran.core text r.image gathered;
-        acts = subst Acts spelled (acts_told setup.dies script drive.geometry name (name_of name) ran.events ran.core text r.image named gathered);
-      };
-      same = refl;
-    }
+    ran_by (InLineOrder run) bytes drive meta pages script name setup stores r ran.events ran.core text mounts is told asked
+    (solo_run first meta.geometry script setup.dies stores r ran) (subst Made asked ran.run) printed
 
 run_told : (bytes : List ℕ) (drive : PlainDrive) (meta : Meta) (pages : List Page) (script : Script) (name : List ℕ) (setup : Setup) (stores : Bool) (r : DriveRun) (text : List ℕ) (plan : Plan)
     → Mounts bytes meta pages (read_image bytes) → drive_of bytes ≡ Ok drive

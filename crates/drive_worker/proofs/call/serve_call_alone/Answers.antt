@@ -9,8 +9,8 @@ pub returns-in_err-read-clause-did : goal.returns-in_err-read-clause-did
 returns-in_err-read-clause-did g c =
     fill_worn g.D.Die.seen (opening_alone opening_in c.args.alone.now) (view_alone c.args.alone.now) (view_alone c.fill_span_alone.new.alone) c.args.worker c.args.lane c.args.job c.fill_span_alone.new.job c.in_err-read.field-0.0 c.from_residual.result c.from_residual.ensures.0 c.requires.fetched c.in_err-read.ensures.did
 
-pub run_gathered-requires-clause-may : goal.run_gathered-requires-clause-may
-run_gathered-requires-clause-may g c = λ κs lives.
+pub run_gathered-requires : goal.run_gathered-requires
+run_gathered-requires g c =
     let o = opening_alone opening_in c.args.alone.now in
     let v = view_alone c.args.alone.now in
     let q = opening_alone opening_in c.fill_span_alone.new.alone in
@@ -18,7 +18,7 @@ run_gathered-requires-clause-may g c = λ κs lives.
     let e = c.fill_span_alone.ensures in
     let read = c.in_ok-read.read in
     let p = does_fill g.D.Die.seen o v u c.args.worker c.args.lane c.fill_span_alone.new.job read c.in_ok-read.ensures.left c.in_ok-read.ensures.did in
-    runs_there g.D.Die.seen o v u c.args.worker c.args.lane c.args.job c.fill_span_alone.new.job read c.requires.fetched p
+    record { may = runs_there g.D.Die.seen o v u c.args.worker c.args.lane c.args.job c.fill_span_alone.new.job read c.requires.fetched p }
 
 pub turn_report-requires-clause-hands : goal.turn_report-requires-clause-hands
 turn_report-requires-clause-hands g c =

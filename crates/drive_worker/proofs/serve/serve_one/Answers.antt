@@ -15,7 +15,7 @@ pub returns-in_err-answer-clause-did : goal.returns-in_err-answer-clause-did
 returns-in_err-answer-clause-did g c = fetch_worn g.D.Die.seen (opening_of opening_in c.args.desk.now.turn.now) (view c.args.desk.now.pass) (view c.turn_fetch.new.desk.pass) c.args.worker c.from_residual.result c.from_residual.ensures.0 c.in_err-answer.ensures.went
 
 pub serve_call-requires-clause-fetched : goal.serve_call-requires-clause-fetched
-serve_call-requires-clause-fetched g c = λ κs lives.
+serve_call-requires-clause-fetched g c =
     let o = opening_of opening_in c.args.desk.now.turn.now in
     let v = view c.args.desk.now.pass in
     let q = opening_of opening_in c.turn_fetch.new.desk.turn.now in
@@ -27,7 +27,7 @@ serve_call-requires-clause-fetched g c = λ κs lives.
     fetched_with g.D.Die.seen o q v u c.args.worker x same c.requires.acts c.requires.worker t
 
 pub serve_call-requires-clause-acts : goal.serve_call-requires-clause-acts
-serve_call-requires-clause-acts g c = λ κs lives.
+serve_call-requires-clause-acts g c =
     let o = opening_of opening_in c.args.desk.now.turn.now in
     let v = view c.args.desk.now.pass in
     let q = opening_of opening_in c.turn_fetch.new.desk.turn.now in
@@ -39,7 +39,7 @@ serve_call-requires-clause-acts g c = λ κs lives.
     fetched_acts g.D.Die.seen o q v u c.args.worker x same t c.requires.acts
 
 pub serve_call-requires-clause-small : goal.serve_call-requires-clause-small
-serve_call-requires-clause-small g c = λ κs lives. subst (λ z. z.value.places.reads ≤ 2 ^ 62) (sym c.turn_fetch.ensures.turn.1) c.requires.small
+serve_call-requires-clause-small g c = subst (λ z. z.value.places.reads ≤ 2 ^ 62) (sym c.turn_fetch.ensures.turn.1) c.requires.small
 
 pub returns-in_err-serve_call-in-Ok-clause-did : goal.returns-in_err-serve_call-in-Ok-clause-did
 returns-in_err-serve_call-in-Ok-clause-did g c =

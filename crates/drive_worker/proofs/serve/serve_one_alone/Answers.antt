@@ -15,7 +15,7 @@ pub returns-in_err-answer-clause-did : goal.returns-in_err-answer-clause-did
 returns-in_err-answer-clause-did g c = fetch_worn g.D.Die.seen (opening_alone opening_in c.args.alone.now) (view_alone c.args.alone.now) (view_alone c.turn_fetch.new.desk) c.args.worker c.from_residual.result c.from_residual.ensures.0 c.in_err-answer.ensures.went
 
 pub serve_call_alone-requires-clause-fetched : goal.serve_call_alone-requires-clause-fetched
-serve_call_alone-requires-clause-fetched g c = λ κs lives.
+serve_call_alone-requires-clause-fetched g c =
     let o = opening_alone opening_in c.args.alone.now in
     let v = view_alone c.args.alone.now in
     let q = opening_alone opening_in c.turn_fetch.new.desk in
@@ -27,7 +27,7 @@ serve_call_alone-requires-clause-fetched g c = λ κs lives.
     fetched_with g.D.Die.seen o q v u c.args.worker x same (inl c.requires.free.2.0) c.requires.worker t
 
 pub serve_call_alone-requires-clause-home : goal.serve_call_alone-requires-clause-home
-serve_call_alone-requires-clause-home g c = λ κs lives.
+serve_call_alone-requires-clause-home g c =
     let o = opening_alone opening_in c.args.alone.now in
     let v = view_alone c.args.alone.now in
     let q = opening_alone opening_in c.turn_fetch.new.desk in
@@ -39,7 +39,7 @@ serve_call_alone-requires-clause-home g c = λ κs lives.
     fetched_home g.D.Die.seen o q v u c.args.worker x same c.requires.free.2.0 t c.requires.home
 
 pub serve_call_alone-requires-clause-small : goal.serve_call_alone-requires-clause-small
-serve_call_alone-requires-clause-small g c = λ κs lives. subst (λ z. z.value.places.reads ≤ 2 ^ 62) (sym c.turn_fetch.ensures.turn.1) c.requires.small
+serve_call_alone-requires-clause-small g c = subst (λ z. z.value.places.reads ≤ 2 ^ 62) (sym c.turn_fetch.ensures.turn.1) c.requires.small
 
 pub returns-in_err-serve_call_alone-in-Ok-clause-did : goal.returns-in_err-serve_call_alone-in-Ok-clause-did
 returns-in_err-serve_call_alone-in-Ok-clause-did g c =

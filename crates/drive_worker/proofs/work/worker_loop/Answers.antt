@@ -18,18 +18,18 @@ pub loop-init : goal.loop-init
 loop-init g c = ((tt, tt), c.requires.free, (refl, refl), going_none g.D.Die.seen (opening_of opening_in c.args.desk.now.turn.now) (view c.args.desk.now.pass) c.args.worker c.requires.worker)
 
 pub serve_one-requires-clause-acts : goal.serve_one-requires-clause-acts
-serve_one-requires-clause-acts g c = λ κs lives.
+serve_one-requires-clause-acts g c =
     let i = c.loop.invariant in
     subst (λ z. ActsFor (core_of g.D.Die.seen) z (view c.loop.desk.pass) (Worker c.args.worker)) (sym i.2.1)
     (subst (λ (z : View (Snapshot (State g.row.D.Denot Job)) Event). ActsFor (core_of g.D.Die.seen) (opening_of opening_in c.args.desk.now.turn.now) z (Worker c.args.worker)) (sym i.3.went.pass) c.requires.acts)
 
 pub serve_one-requires-clause-worker : goal.serve_one-requires-clause-worker
-serve_one-requires-clause-worker g c = λ κs lives.
+serve_one-requires-clause-worker g c =
     let i = c.loop.invariant in
     subst (λ z. IsFreeWorker (core_seen (core_of g.D.Die.seen) z (view c.loop.desk.pass)) c.args.worker) (sym i.2.1) i.3.says.after
 
 pub serve_one-requires-clause-small : goal.serve_one-requires-clause-small
-serve_one-requires-clause-small g c = λ κs lives. subst (λ z. z.value.places.reads ≤ 2 ^ 62) (sym c.loop.invariant.2.1) c.requires.small
+serve_one-requires-clause-small g c = subst (λ z. z.value.places.reads ≤ 2 ^ 62) (sym c.loop.invariant.2.1) c.requires.small
 
 pub returns-in_err-served-clause-did : goal.returns-in_err-served-clause-did
 returns-in_err-served-clause-did g c =

@@ -3,4 +3,4 @@ use Rattle.lambda_calls.proofs.kinds.read_lambda.Goals as goal
 
 pub lambda_call-requires-clause-lambda : goal.lambda_call-requires-clause-lambda
 lambda_call-requires-clause-lambda g c =
-    λ κs lives. readl_runs c.args.request.now.call c.requires.kind
+    readl_runs c.args.request.now.call c.requires.kind

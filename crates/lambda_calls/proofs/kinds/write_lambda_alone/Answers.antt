@@ -3,4 +3,4 @@ use Rattle.lambda_calls.proofs.kinds.write_lambda_alone.Goals as goal
 
 pub lambda_call_alone-requires-clause-lambda : goal.lambda_call_alone-requires-clause-lambda
 lambda_call_alone-requires-clause-lambda g c =
-    λ κs lives. writel_runs c.args.request.now.call c.requires.kind
+    writel_runs c.args.request.now.call c.requires.kind

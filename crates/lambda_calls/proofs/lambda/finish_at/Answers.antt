@@ -9,7 +9,7 @@ use Rattle.lambda_calls.proofs.lambda.finish_at.Goals as goal
 
 pub finish_at_host-requires-clause-begun : goal.finish_at_host-requires-clause-begun
 finish_at_host-requires-clause-begun g c =
-    λ κs lives. subst (λ (s : Side). IsBegunAt s (core_seen (core_of g.D.Die.seen) (opening_of opening_in c.args.desk.now.turn.now) (view c.args.desk.now.pass)) c.args.lane c.args.job) c.in-Host.is c.requires.begun
+    subst (λ (s : Side). IsBegunAt s (core_seen (core_of g.D.Die.seen) (opening_of opening_in c.args.desk.now.turn.now) (view c.args.desk.now.pass)) c.args.lane c.args.job) c.in-Host.is c.requires.begun
 
 pub finish_at_drive-requires-clause-begun : goal.finish_at_drive-requires-clause-begun
 finish_at_drive-requires-clause-begun g c =

@@ -10,11 +10,11 @@ use Rattle.lambda_calls.proofs.lambda.finish_at_alone.Goals as goal
 
 pub finish_at_host_alone-requires-clause-begun : goal.finish_at_host_alone-requires-clause-begun
 finish_at_host_alone-requires-clause-begun g c =
-    λ κs lives. subst (λ (s : Side). IsBegunAt s (core_seen (core_of g.D.Die.seen) (opening_alone opening_in c.args.alone.now) (view_alone c.args.alone.now)) c.args.lane c.args.job) c.in-Host.is c.requires.begun
+    subst (λ (s : Side). IsBegunAt s (core_seen (core_of g.D.Die.seen) (opening_alone opening_in c.args.alone.now) (view_alone c.args.alone.now)) c.args.lane c.args.job) c.in-Host.is c.requires.begun
 
 pub finish_at_drive_alone-requires-clause-begun : goal.finish_at_drive_alone-requires-clause-begun
 finish_at_drive_alone-requires-clause-begun g c =
-    λ κs lives. subst (λ (s : Side). IsBegunAt s (core_seen (core_of g.D.Die.seen) (opening_alone opening_in c.args.alone.now) (view_alone c.args.alone.now)) c.args.lane c.args.job) c.in-Drive.is c.requires.begun
+    subst (λ (s : Side). IsBegunAt s (core_seen (core_of g.D.Die.seen) (opening_alone opening_in c.args.alone.now) (view_alone c.args.alone.now)) c.args.lane c.args.job) c.in-Drive.is c.requires.begun
 
 pub returns-in-Host-clause-did : goal.returns-in-Host-clause-did
 returns-in-Host-clause-did g c =

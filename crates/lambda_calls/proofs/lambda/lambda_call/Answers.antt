@@ -11,11 +11,11 @@ use Rattle.lambda_calls.proofs.lambda.lambda_call.Goals as goal
 
 pub prepared_lambda-requires-clause-prepared : goal.prepared_lambda-requires-clause-prepared
 prepared_lambda-requires-clause-prepared g c =
-    λ κs lives. self_prepared c.args.request.now c.in-Ok.prepared.job c.in-Ok.ensures
+    self_prepared c.args.request.now c.in-Ok.prepared.job c.in-Ok.ensures
 
 pub prepared_lambda-requires-clause-lambda : goal.prepared_lambda-requires-clause-lambda
 prepared_lambda-requires-clause-lambda g c =
-    λ κs lives. subst (λ (r : Request). is_lambda r.call ≡ true) (sym c.in-Ok.ensures.request_is) c.requires.lambda
+    subst (λ (r : Request). is_lambda r.call ≡ true) (sym c.in-Ok.ensures.request_is) c.requires.lambda
 
 pub returns-in-Ok-clause-did : goal.returns-in-Ok-clause-did
 returns-in-Ok-clause-did g c =

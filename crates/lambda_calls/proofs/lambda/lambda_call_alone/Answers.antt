@@ -13,15 +13,15 @@ use Rattle.lambda_calls.proofs.lambda.lambda_call_alone.Goals as goal
 
 pub prepared_lambda_alone-requires-clause-prepared : goal.prepared_lambda_alone-requires-clause-prepared
 prepared_lambda_alone-requires-clause-prepared g c =
-    λ κs lives. self_prepared c.args.request.now c.in-Ok.prepared.job c.in-Ok.ensures
+    self_prepared c.args.request.now c.in-Ok.prepared.job c.in-Ok.ensures
 
 pub prepared_lambda_alone-requires-clause-lambda : goal.prepared_lambda_alone-requires-clause-lambda
 prepared_lambda_alone-requires-clause-lambda g c =
-    λ κs lives. subst (λ (r : Request). is_lambda r.call ≡ true) (sym c.in-Ok.ensures.request_is) c.requires.lambda
+    subst (λ (r : Request). is_lambda r.call ≡ true) (sym c.in-Ok.ensures.request_is) c.requires.lambda
 
 pub prepared_lambda_alone-requires-clause-alone : goal.prepared_lambda_alone-requires-clause-alone
 prepared_lambda_alone-requires-clause-alone g c =
-    λ κs lives. subst (λ (r : Request). IsAlone (core_seen (core_of g.D.Die.seen) (opening_alone opening_in c.args.alone.now) (view_alone c.args.alone.now)) c.args.lane r) (sym c.in-Ok.ensures.request_is) c.requires.alone
+    subst (λ (r : Request). IsAlone (core_seen (core_of g.D.Die.seen) (opening_alone opening_in c.args.alone.now) (view_alone c.args.alone.now)) c.args.lane r) (sym c.in-Ok.ensures.request_is) c.requires.alone
 
 pub skip_call_alone-requires-clause-awaited : goal.skip_call_alone-requires-clause-awaited
 skip_call_alone-requires-clause-awaited g c =

@@ -37,7 +37,7 @@ returns-in-Ended-clause-numbered g c =
 
 pub finish_at-requires-clause-acts : goal.finish_at-requires-clause-acts
 finish_at-requires-clause-acts g c =
-    λ κs lives. let o = opening_of opening_in c.args.desk.now.turn.now in
+    let o = opening_of opening_in c.args.desk.now.turn.now in
     let v = view c.args.desk.now.pass in
     let q = opening_of opening_in c.begin_call.new.desk.turn.now in
     let u = view c.begin_call.new.desk.pass in
@@ -48,7 +48,7 @@ finish_at-requires-clause-acts g c =
 
 pub finish_at-requires-clause-begun : goal.finish_at-requires-clause-begun
 finish_at-requires-clause-begun g c =
-    λ κs lives. let o = opening_of opening_in c.args.desk.now.turn.now in
+    let o = opening_of opening_in c.args.desk.now.turn.now in
     let v = view c.args.desk.now.pass in
     let q = opening_of opening_in c.begin_call.new.desk.turn.now in
     let u = view c.begin_call.new.desk.pass in
@@ -60,7 +60,7 @@ finish_at-requires-clause-begun g c =
 
 pub finish_at-requires-clause-small : goal.finish_at-requires-clause-small
 finish_at-requires-clause-small g c =
-    λ κs lives. subst (λ z. IsSmall z.value) (sym c.begin_call.ensures.turn.1) c.requires.small
+    subst (λ z. IsSmall z.value) (sym c.begin_call.ensures.turn.1) c.requires.small
 
 pub returns-in-Started-clause-did : goal.returns-in-Started-clause-did
 returns-in-Started-clause-did g c =

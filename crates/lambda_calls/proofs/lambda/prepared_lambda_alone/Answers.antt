@@ -35,7 +35,7 @@ returns-in-Ended-clause-numbered g c =
 
 pub finish_at_alone-requires-clause-begun : goal.finish_at_alone-requires-clause-begun
 finish_at_alone-requires-clause-begun g c =
-    λ κs lives. let o = opening_alone opening_in c.args.alone.now in
+    let o = opening_alone opening_in c.args.alone.now in
     let v = view_alone c.args.alone.now in
     let q = opening_alone opening_in c.begin_call_alone.new.alone in
     let u = view_alone c.begin_call_alone.new.alone in
@@ -47,11 +47,11 @@ finish_at_alone-requires-clause-begun g c =
 
 pub finish_at_alone-requires-clause-small : goal.finish_at_alone-requires-clause-small
 finish_at_alone-requires-clause-small g c =
-    λ κs lives. subst (λ z. IsSmall z.value) (sym c.begin_call_alone.ensures.turn.1) c.requires.small
+    subst (λ z. IsSmall z.value) (sym c.begin_call_alone.ensures.turn.1) c.requires.small
 
 pub finish_at_alone-requires-clause-home : goal.finish_at_alone-requires-clause-home
 finish_at_alone-requires-clause-home g c =
-    λ κs lives. let o = opening_alone opening_in c.args.alone.now in
+    let o = opening_alone opening_in c.args.alone.now in
     let v = view_alone c.args.alone.now in
     let q = opening_alone opening_in c.begin_call_alone.new.alone in
     let u = view_alone c.begin_call_alone.new.alone in
@@ -89,7 +89,7 @@ returns-in-Started-clause-numbered g c =
 
 pub finish_at_alone-requires-clause-alone : goal.finish_at_alone-requires-clause-alone
 finish_at_alone-requires-clause-alone g c =
-    λ κs lives. let o = opening_alone opening_in c.args.alone.now in
+    let o = opening_alone opening_in c.args.alone.now in
     let v = view_alone c.args.alone.now in
     let q = opening_alone opening_in c.begin_call_alone.new.alone in
     let u = view_alone c.begin_call_alone.new.alone in

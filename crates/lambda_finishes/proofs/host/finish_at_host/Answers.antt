@@ -11,7 +11,7 @@ use Rattle.lambda_finishes.proofs.Running.{ready_there, runs_still, fresh_still,
 use Rattle.lambda_finishes.proofs.host.finish_at_host.Goals as goal
 
 pub run_gathered-requires-clause-ready : goal.run_gathered-requires-clause-ready
-run_gathered-requires-clause-ready g c = λ ks within.
+run_gathered-requires-clause-ready g c =
     let o = opening_of opening_in c.args.desk.now.turn.now in
     let v = view c.args.desk.now.pass in
     let u = view c.fill_span.new.desk.pass in
@@ -22,11 +22,11 @@ run_gathered-requires-clause-ready g c = λ ks within.
     ready_there g.D.Die.seen o v u c.args.lane mid good left c.in_ok-good.ensures.did
 
 pub run_gathered-requires-clause-lambda : goal.run_gathered-requires-clause-lambda
-run_gathered-requires-clause-lambda g c = λ ks within.
+run_gathered-requires-clause-lambda g c =
     runs_still (core_seen (core_of g.D.Die.seen) (opening_of opening_in c.args.desk.now.turn.now) (view c.args.desk.now.pass)) c.args.lane c.args.job.now c.fill_span.new.job c.requires.begun c.fill_span.ensures.same
 
 pub run_gathered-requires-clause-fresh : goal.run_gathered-requires-clause-fresh
-run_gathered-requires-clause-fresh g c = λ ks within.
+run_gathered-requires-clause-fresh g c =
     fresh_still c.args.job.now c.fill_span.new.job c.fill_span.ensures.same c.requires.begun.gathering.fresh
 
 pub turn_end_job-requires-clause-acts : goal.turn_end_job-requires-clause-acts

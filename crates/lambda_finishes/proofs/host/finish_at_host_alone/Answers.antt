@@ -10,7 +10,7 @@ use Rattle.lambda_finishes.proofs.Running.{ready_there, runs_still, fresh_still,
 use Rattle.lambda_finishes.proofs.host.finish_at_host_alone.Goals as goal
 
 pub run_gathered-requires-clause-ready : goal.run_gathered-requires-clause-ready
-run_gathered-requires-clause-ready g c = λ ks within.
+run_gathered-requires-clause-ready g c =
     let o = opening_alone opening_in c.args.alone.now in
     let v = view_alone c.args.alone.now in
     let u = view_alone c.fill_span_alone.new.alone in
@@ -21,11 +21,11 @@ run_gathered-requires-clause-ready g c = λ ks within.
     ready_there g.D.Die.seen o v u c.args.lane mid good left c.in_ok-good.ensures.did
 
 pub run_gathered-requires-clause-lambda : goal.run_gathered-requires-clause-lambda
-run_gathered-requires-clause-lambda g c = λ ks within.
+run_gathered-requires-clause-lambda g c =
     runs_still (core_seen (core_of g.D.Die.seen) (opening_alone opening_in c.args.alone.now) (view_alone c.args.alone.now)) c.args.lane c.args.job.now c.fill_span_alone.new.job c.requires.begun c.fill_span_alone.ensures.same
 
 pub run_gathered-requires-clause-fresh : goal.run_gathered-requires-clause-fresh
-run_gathered-requires-clause-fresh g c = λ ks within.
+run_gathered-requires-clause-fresh g c =
     fresh_still c.args.job.now c.fill_span_alone.new.job c.fill_span_alone.ensures.same c.requires.begun.gathering.fresh
 
 pub turn_end_job-requires-clause-hands : goal.turn_end_job-requires-clause-hands

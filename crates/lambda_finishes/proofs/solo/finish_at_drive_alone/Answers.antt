@@ -24,7 +24,7 @@ returns-in_err-turn_submit-clause-did g c =
     submit_worn g.D.Die.seen (opening_alone opening_in c.args.alone.now) (view_alone c.args.alone.now) (view_alone c.turn_submit.new.desk) c.args.lane c.args.job.request c.from_residual.result c.from_residual.ensures.0 c.in_err-turn_submit.ensures.went
 
 pub serve_one_alone-requires-clause-worker : goal.serve_one_alone-requires-clause-worker
-serve_one_alone-requires-clause-worker g c = λ ks within.
+serve_one_alone-requires-clause-worker g c =
     let o = opening_alone opening_in c.args.alone.now in
     let v = view_alone c.args.alone.now in
     let u = view_alone c.turn_submit.new.desk in
@@ -35,7 +35,7 @@ serve_one_alone-requires-clause-worker g c = λ ks within.
     free_there g.D.Die.seen o (opening_alone opening_in c.turn_submit.new.desk) u lane c.args.job.request c.turn_submit.ensures.turn.1 w
 
 pub serve_one_alone-requires-clause-home : goal.serve_one_alone-requires-clause-home
-serve_one_alone-requires-clause-home g c = λ ks within.
+serve_one_alone-requires-clause-home g c =
     let o = opening_alone opening_in c.args.alone.now in
     let v = view_alone c.args.alone.now in
     let u = view_alone c.turn_submit.new.desk in
@@ -46,7 +46,7 @@ serve_one_alone-requires-clause-home g c = λ ks within.
     home_there g.D.Die.seen o (opening_alone opening_in c.turn_submit.new.desk) u lane c.args.job.request c.turn_submit.ensures.turn.1 w
 
 pub serve_one_alone-requires-clause-small : goal.serve_one_alone-requires-clause-small
-serve_one_alone-requires-clause-small g c = λ ks within.
+serve_one_alone-requires-clause-small g c =
     subst (λ z. z.value.places.reads ≤ 2 ^ 62) (sym c.turn_submit.ensures.turn.1) c.requires.small.reads
 
 pub returns-in_err-serve_one_alone-clause-did : goal.returns-in_err-serve_one_alone-clause-did

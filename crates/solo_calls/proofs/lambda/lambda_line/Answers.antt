@@ -8,15 +8,15 @@ use Rattle.solo_calls.proofs.lambda.lambda_line.Goals as goal
 
 pub read_lambda_alone-requires-clause-lane : goal.read_lambda_alone-requires-clause-lane
 read_lambda_alone-requires-clause-lane g c =
-    λ κs lives. free_of (core_seen (core_of g.D.Die.seen) (opening_alone opening_in c.args.alone.now) (view_alone c.args.alone.now)) c.args.lane c.args.request.now c.requires.may
+    free_of (core_seen (core_of g.D.Die.seen) (opening_alone opening_in c.args.alone.now) (view_alone c.args.alone.now)) c.args.lane c.args.request.now c.requires.may
 
 pub read_lambda_alone-requires-clause-alone : goal.read_lambda_alone-requires-clause-alone
 read_lambda_alone-requires-clause-alone g c =
-    λ κs lives. alone_of (core_seen (core_of g.D.Die.seen) (opening_alone opening_in c.args.alone.now) (view_alone c.args.alone.now)) c.args.lane c.args.request.now c.requires.may
+    alone_of (core_seen (core_of g.D.Die.seen) (opening_alone opening_in c.args.alone.now) (view_alone c.args.alone.now)) c.args.lane c.args.request.now c.requires.may
 
 pub read_lambda_alone-requires-clause-frames : goal.read_lambda_alone-requires-clause-frames
 read_lambda_alone-requires-clause-frames g c =
-    λ κs lives. frames_of g.D.Die.seen (opening_alone opening_in c.args.alone.now) (view_alone c.args.alone.now) c.args.lane c.args.request.now c.requires.may
+    frames_of g.D.Die.seen (opening_alone opening_in c.args.alone.now) (view_alone c.args.alone.now) c.args.lane c.args.request.now c.requires.may
 
 pub returns-in-Readl-clause-did : goal.returns-in-Readl-clause-did
 returns-in-Readl-clause-did g c =
@@ -24,15 +24,15 @@ returns-in-Readl-clause-did g c =
 
 pub write_lambda_alone-requires-clause-lane : goal.write_lambda_alone-requires-clause-lane
 write_lambda_alone-requires-clause-lane g c =
-    λ κs lives. free_of (core_seen (core_of g.D.Die.seen) (opening_alone opening_in c.args.alone.now) (view_alone c.args.alone.now)) c.args.lane c.args.request.now c.requires.may
+    free_of (core_seen (core_of g.D.Die.seen) (opening_alone opening_in c.args.alone.now) (view_alone c.args.alone.now)) c.args.lane c.args.request.now c.requires.may
 
 pub write_lambda_alone-requires-clause-alone : goal.write_lambda_alone-requires-clause-alone
 write_lambda_alone-requires-clause-alone g c =
-    λ κs lives. alone_of (core_seen (core_of g.D.Die.seen) (opening_alone opening_in c.args.alone.now) (view_alone c.args.alone.now)) c.args.lane c.args.request.now c.requires.may
+    alone_of (core_seen (core_of g.D.Die.seen) (opening_alone opening_in c.args.alone.now) (view_alone c.args.alone.now)) c.args.lane c.args.request.now c.requires.may
 
 pub write_lambda_alone-requires-clause-frames : goal.write_lambda_alone-requires-clause-frames
 write_lambda_alone-requires-clause-frames g c =
-    λ κs lives. frames_of g.D.Die.seen (opening_alone opening_in c.args.alone.now) (view_alone c.args.alone.now) c.args.lane c.args.request.now c.requires.may
+    frames_of g.D.Die.seen (opening_alone opening_in c.args.alone.now) (view_alone c.args.alone.now) c.args.lane c.args.request.now c.requires.may
 
 pub returns-in-Writel-clause-did : goal.returns-in-Writel-clause-did
 returns-in-Writel-clause-did g c =

@@ -1,0 +1,4 @@
+mod Endings
+mod Logging
+mod Telling
+mod Whole

@@ -1,5 +1,0 @@
-pub mod Orders
-pub mod Stored
-pub mod Imaging
-pub mod Begun
-pub mod Made

@@ -1,6 +1,0 @@
-pub mod Runs
-pub mod Imaging
-pub mod Making
-pub use Rattle.solo_runs.specs.Lines
-pub use Rattle.lane_logs.specs.Logs
-pub use Rattle.lane_logs.specs.declared.logs.LaneLog as LaneLogs
