@@ -14,6 +14,8 @@ mod image_tests;
 #[cfg(test)]
 mod predicate_tests;
 #[cfg(test)]
+mod refusal_tests;
+#[cfg(test)]
 mod reply_tests;
 #[cfg(test)]
 mod room_tests;
