@@ -1,4 +1,4 @@
--- Jobs for threads, each with a pass.
+-- Jobs for threads, each with a pass. This project's own.
 use Rattle.std.specs.Prelude.{◌≡◌, ◌^◌, false, IsSome}
 use Rattle.std.specs.declared.option.Option.TheVariants.{None, Some}
 use Rattle.turn_cell.specs.declared.turn.Turn.{Turn}

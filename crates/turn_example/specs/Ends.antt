@@ -1,4 +1,4 @@
--- What tells that work over a turn had to give up.
+-- What tells that work over a turn had to give up. This project's own.
 use Rattle.std.specs.Prelude.{◌≡◌, ⊤, ◌^◌}
 use Rattle.std.specs.declared.option.Option.TheVariants.{Some}
 use Rattle.turn_cell.specs.declared.pass.Pass.{Pass}

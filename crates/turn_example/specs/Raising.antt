@@ -1,4 +1,4 @@
--- What it means that a pass raises a counter, by additions of 1.
+-- What it means that a pass raises a counter, by additions of 1. This project's own.
 use Rattle.std.specs.Prelude.{◌≡◌, ◌≤◌, ℕ, List, [], ◌∷◌, ◌++◌}
 use Rattle.turn_cell.specs.declared.book.Entry.{Entry}
 use Rattle.turn_cell.specs.declared.view.View.{View}

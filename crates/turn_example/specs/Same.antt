@@ -1,4 +1,4 @@
--- A counter tells which additions were made: histories that it stands for have the same ones.
+-- A counter tells which additions were made: histories that it stands for have the same ones. This project's own.
 use Rattle.std.proofs.Common.{◌≡◌, List, sym, ◌∙◌}
 use Rattle.turn_cell.specs.declared.book.Entry.{Entry}
 use Rattle.turn_cell.specs.Events.{events_of}

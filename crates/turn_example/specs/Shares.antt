@@ -1,4 +1,4 @@
--- Work that is shared out to passes and gathered again.
+-- Work that is shared out to passes and gathered again. This project's own.
 use Rattle.std.specs.Prelude.{◌≡◌, ◌<◌, ℕ, ◌+◌, ◌^◌, false, List, [], ◌∷◌, map, length, slice_index_or, IsSome}
 use Rattle.std.specs.declared.option.Option.TheVariants.{None, Some}
 use Rattle.turn_cell.specs.declared.pass.Pass.{Pass}

@@ -1,4 +1,4 @@
-//! Clients of a turn: a counter that is handed from pass to pass.
+//! An example of code over a turn: a counter that is handed from pass to pass, by loops and by threads.
 #![tactic(auto)]
 
 mod add;
