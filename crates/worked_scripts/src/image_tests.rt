@@ -200,44 +200,8 @@ fn is_refused(alloc: Global, image: &[u8], line: &str) -> Result<bool, AllocErro
     gives(alloc, "solo img S -", &mut room, "", Status::BadImage, line)
 }
 
-// The image with this byte at this place.
-fn changed(made: Made, at: usize, byte: u8) -> Made {
-    Made {
-        changed: [(at, byte); 2],
-        ..made
-    }
-}
-
 #[test]
-fn hostile_headers_are_refused(rt: HostRuntime) -> Result<(), Fail> {
-    let alloc = rt.alloc();
-    for version in [1u32, 2] {
-        let plain = empty(version);
-        for (made, fault) in [
-            (changed(plain, 0, 0), "magic 0"),
-            (changed(plain, 4, 3), "version 4"),
-            (changed(plain, 8, 0), "geometry 8"),
-            (changed(plain, 12, 17), "geometry 12"),
-            (Made { next: 0, ..plain }, "nextid 16"),
-            (changed(plain, 4095, 1), "reserved 4095"),
-        ] {
-            let image = image_of(alloc, made)?;
-            let line = format!(in alloc; "badimage {fault}\n")?;
-            let refused = is_refused(alloc, &image, line.as_str())?;
-            assert!(rt; refused, "version {version}: {fault}");
-        }
-        let mut longer = image_of(alloc, plain)?;
-        longer.push(0)?;
-        let len = longer.len();
-        let line = format!(in alloc; "badimage length {len}\n")?;
-        let refused = is_refused(alloc, &longer, line.as_str())?;
-        assert!(rt; refused);
-    }
-    Ok(())
-}
-
-#[test]
-fn hostile_tables_are_refused(rt: HostRuntime) -> Result<(), Fail> {
+fn hostile_images_are_refused(rt: HostRuntime) -> Result<(), Fail> {
     let alloc = rt.alloc();
     for version in [1u32, 2] {
         let plain = empty(version);
@@ -246,10 +210,6 @@ fn hostile_tables_are_refused(rt: HostRuntime) -> Result<(), Fail> {
             next: 2,
             len: 4096,
             ..plain
-        };
-        let large = Made {
-            len: 268_435_457,
-            ..first
         };
         let wide = Made {
             len: 8192,
@@ -264,11 +224,65 @@ fn hostile_tables_are_refused(rt: HostRuntime) -> Result<(), Fail> {
         };
         let at_extent = format!(in alloc; "extent {entries}")?;
         for (made, fault) in [
-            (changed(plain, 4105, 1), "record 4096"),
-            (large, "filelength 4096"),
+            (
+                Made {
+                    changed: [(0, 0); 2],
+                    ..plain
+                },
+                "magic 0",
+            ),
+            (
+                Made {
+                    changed: [(4, 3); 2],
+                    ..plain
+                },
+                "version 4",
+            ),
+            (
+                Made {
+                    changed: [(8, 0); 2],
+                    ..plain
+                },
+                "geometry 8",
+            ),
+            (
+                Made {
+                    changed: [(12, 17); 2],
+                    ..plain
+                },
+                "geometry 12",
+            ),
+            (Made { next: 0, ..plain }, "nextid 16"),
+            (
+                Made {
+                    changed: [(4095, 1); 2],
+                    ..plain
+                },
+                "reserved 4095",
+            ),
+            (
+                Made {
+                    changed: [(4105, 1); 2],
+                    ..plain
+                },
+                "record 4096",
+            ),
+            (
+                Made {
+                    len: 268_435_457,
+                    ..first
+                },
+                "filelength 4096",
+            ),
             (wide, at_extent.as_str()),
             (first, "cover 1"),
-            (changed(plain, entries + 4096, 1), "bitmap 0"),
+            (
+                Made {
+                    changed: [(entries + 4096, 1); 2],
+                    ..plain
+                },
+                "bitmap 0",
+            ),
             (tail, "tail 1"),
         ] {
             let image = image_of(alloc, made)?;
@@ -276,24 +290,26 @@ fn hostile_tables_are_refused(rt: HostRuntime) -> Result<(), Fail> {
             let refused = is_refused(alloc, &image, line.as_str())?;
             assert!(rt; refused, "version {version}: {fault}");
         }
+        let mut longer = image_of(alloc, plain)?;
+        longer.push(0)?;
+        let len = longer.len();
+        let line = format!(in alloc; "badimage length {len}\n")?;
+        let refused = is_refused(alloc, &longer, line.as_str())?;
+        assert!(rt; refused);
     }
-    Ok(())
-}
-
-#[test]
-fn an_overlap_no_name_and_a_short_image_are_refused(rt: HostRuntime) -> Result<(), Fail> {
-    let alloc = rt.alloc();
     let wide = Made {
         blocks: 1024,
         next: 3,
         ..empty(1)
     };
-    let one = Made {
-        len: 4096,
-        extent: [1, 0, 0, 1],
-        ..wide
-    };
-    let mut overlap = image_of(alloc, one)?;
+    let mut overlap = image_of(
+        alloc,
+        Made {
+            len: 4096,
+            extent: [1, 0, 0, 1],
+            ..wide
+        },
+    )?;
     put(&mut overlap, 4160, &[2, 0, 0, 0, 0, 16, 0, 0, 1]);
     put(&mut overlap, 4176, b"b");
     put(
@@ -303,7 +319,13 @@ fn an_overlap_no_name_and_a_short_image_are_refused(rt: HostRuntime) -> Result<(
     );
     let refused = is_refused(alloc, &overlap, "badimage overlap 69648\n")?;
     assert!(rt; refused);
-    let mut nameless = image_of(alloc, changed(wide, 4096, 1))?;
+    let mut nameless = image_of(
+        alloc,
+        Made {
+            changed: [(4096, 1); 2],
+            ..wide
+        },
+    )?;
     let refused = is_refused(alloc, &nameless, "badimage name 4096\n")?;
     assert!(rt; refused);
     nameless.truncate(100);
