@@ -149,21 +149,21 @@ class Page:
 
 MONO = {"mono": True}
 BOLD = {"bold": True}
-SLANT = {"italic": True}
 
 
 # ---- the system and its crates
 
 def system():
     p = Page("system.svg", 1000, 966, "The system: who acts, the turn, both caches, the dies")
-    p.words(20, 54, "Crates stand in typewriter letters. A broken frame: what stands there is not all there yet; a crate that is named is.")
+    p.words(20, 54, "Crates stand in typewriter letters, beside what they are for. On one thread (solo, bench) the only pass acts for all actors.")
 
     # who acts
     p.words(20, 86, "Actors. Each has a pass; a pass takes the book, makes at most one event, and gives it back.", bold=True)
-    p.box(20, 98, 290, 84, ["lanes: room for a call", ("page_steps", MONO), ("calls over a desk: to come", SLANT)], dashed=True)
-    p.box(330, 98, 220, 84, ["flushers: one flush", ("flushes", MONO), ("their loop: to come", SLANT)], dashed=True)
-    p.box(570, 98, 200, 84, ["workers of the drive", ("to come", SLANT)], dashed=True)
-    p.box(790, 98, 190, 84, ["closer: one flush", ("flushes", MONO), ("last sync: to come", SLANT)], dashed=True)
+    p.box(20, 98, 290, 84, ["lanes: their calls in order", ("crews, crew_calls", MONO),
+                            "all on one thread:", ("solo_runs, solo_calls", MONO)])
+    p.box(330, 98, 220, 84, ["flushers: unclean blocks", ("flusher, flushes", MONO)])
+    p.box(570, 98, 200, 84, ["workers of the drive", ("drive_worker", MONO)])
+    p.box(790, 98, 190, 84, ["closer: the last sync", ("settling", MONO)])
     for x in (165, 440, 670, 885):
         p.line([(x, 182), (x, 216)], both=True)
 
@@ -177,9 +177,10 @@ def system():
     p.box(20, 337, 960, 456, fill="#f2f2f2", thick=True, room=True)
     p.words(34, 360, "the book: the state of the system", bold=True)
     p.words(330, 360, "system_state", mono=True)
-    p.words(450, 360, "(as a book: System of flushes); to come: Quick, and the job of a call", italic=True)
+    p.words(450, 360, "as a book it is System of")
+    p.words(640, 360, "lambda_system", mono=True)
     p.words(34, 382, "its start, its events")
-    p.words(190, 382, "system_start; system_lanes, _begin, _pages, _dies, _metas, _ends, _blocks; call_checks", mono=True)
+    p.words(190, 382, "system_start; system_lanes, _begin, _quick, _pages, _dies, _metas, _ends, _blocks; job_events", mono=True)
 
     # the tables
     p.box(34, 396, 932, 96, fill="white", room=True)
@@ -195,14 +196,14 @@ def system():
     p.words(48, 548, "read, write, append, trunc and sync, and those")
     p.words(48, 566, "calls with a function that the costs pick for it")
     p.box(48, 580, 424, 56, ["host cache: 256 frames, and the order of use", ("page_cache", MONO)])
-    p.box(48, 644, 424, 52, ["functions run in the caller's hands", ("sbpf_exec", MONO)], dashed=True)
+    p.box(48, 644, 424, 52, ["functions run in the lane's hands", ("call_job, span_bytes, sbpf_exec", MONO)])
 
     p.box(514, 506, 452, 200, fill="white", room=True)
     p.words(528, 528, "drive", bold=True)
     p.words(528, 548, "calls with a function that the costs pick for it; they")
     p.words(528, 566, "go into the queue, and a worker runs them")
     p.box(528, 580, 424, 56, ["drive cache: 128 frames, and the order of use", ("page_cache", MONO)])
-    p.box(528, 644, 424, 52, ["functions run in a worker's hands", ("sbpf_exec", MONO)], dashed=True)
+    p.box(528, 644, 424, 52, ["functions run in a worker's hands", ("call_job, span_bytes, sbpf_exec", MONO)])
 
     p.box(34, 718, 932, 62, ["both caches together, with each block's flags and version, and the order of unclean blocks", ("coherence", MONO)])
 

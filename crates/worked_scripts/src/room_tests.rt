@@ -2,19 +2,19 @@ use crate::scripts::{PUT, answers, empty_room};
 use std::test::Fail;
 
 // Each of these writes fills 64 pages. The host has 256 frames, the drive 128.
-const W0: (&str, &str) = ("write f 0 fill:01*262144", "ok");
+const FILL_0: (&str, &str) = ("write f 0 fill:01*262144", "ok");
 
-const W1: (&str, &str) = ("write f 262144 fill:02*262144", "ok");
+const FILL_1: (&str, &str) = ("write f 262144 fill:02*262144", "ok");
 
-const W2: (&str, &str) = ("write f 524288 fill:03*262144", "ok");
+const FILL_2: (&str, &str) = ("write f 524288 fill:03*262144", "ok");
 
-const W3: (&str, &str) = ("write f 786432 fill:04*262144", "ok");
+const FILL_3: (&str, &str) = ("write f 786432 fill:04*262144", "ok");
 
-const W4: (&str, &str) = ("write f 1048576 fill:05*262144", "ok");
+const FILL_4: (&str, &str) = ("write f 1048576 fill:05*262144", "ok");
 
-const W5: (&str, &str) = ("write f 1310720 fill:06*262144", "ok");
+const FILL_5: (&str, &str) = ("write f 1310720 fill:06*262144", "ok");
 
-const W6: (&str, &str) = ("write f 1572864 fill:07*262144", "ok");
+const FILL_6: (&str, &str) = ("write f 1572864 fill:07*262144", "ok");
 
 const CREATE: (&str, &str) = ("create f", "id 1");
 
@@ -30,21 +30,26 @@ fn room_for_the_host_is_made_in_order(rt: HostRuntime) -> Result<(), Fail> {
     let mut room = empty_room(alloc);
     let mut told = true;
     // To the drive: the first page is there still.
-    let calls = [CREATE, W0, W1, W2, W3, W4, FIRST];
+    let calls = [CREATE, FILL_0, FILL_1, FILL_2, FILL_3, FILL_4, FIRST];
     let places = "host=0 drive=0 reads=0 writes=0";
     told = told && answers(alloc, "solo - S -", &mut room, "", &calls, places)?;
     // All is clean: the first page went, and is read again.
-    let calls = [CREATE, W0, W1, W2, W3, SYNC, W4, FIRST, FIRST];
+    let calls = [
+        CREATE, FILL_0, FILL_1, FILL_2, FILL_3, SYNC, FILL_4, FIRST, FIRST,
+    ];
     let places = "host=0 drive=0 reads=1 writes=390";
     told = told && answers(alloc, "solo - S -", &mut room, "", &calls, places)?;
     // The drive is full of clean copies, the host of unclean ones: those of the drive go.
     let calls = [
-        CREATE, W0, W1, W2, W3, W4, W5, SYNC, W2, W3, W4, W5, W6, FIRST,
+        CREATE, FILL_0, FILL_1, FILL_2, FILL_3, FILL_4, FILL_5, SYNC, FILL_2, FILL_3, FILL_4,
+        FILL_5, FILL_6, FIRST,
     ];
     let places = "host=0 drive=0 reads=1 writes=518";
     told = told && answers(alloc, "solo - S -", &mut room, "", &calls, places)?;
     // Both are full of unclean copies: blocks are written, the first one first.
-    let calls = [CREATE, W0, W1, W2, W3, W4, W5, W6, FIRST];
+    let calls = [
+        CREATE, FILL_0, FILL_1, FILL_2, FILL_3, FILL_4, FILL_5, FILL_6, FIRST,
+    ];
     let places = "host=0 drive=0 reads=1 writes=65";
     told = told && answers(alloc, "solo - S -", &mut room, "", &calls, places)?;
     assert!(rt; told);
@@ -95,15 +100,15 @@ fn a_failed_flush_for_room_is_a_fault(rt: HostRuntime) -> Result<(), Fail> {
     let fails = ("write f 1572864 fill:07*262144", "fault");
     let calls = [
         CREATE,
-        W0,
-        W1,
-        W2,
-        W3,
-        W4,
-        W5,
+        FILL_0,
+        FILL_1,
+        FILL_2,
+        FILL_3,
+        FILL_4,
+        FILL_5,
         fails,
         ("stat f", "len 1572864"),
-        W6,
+        FILL_6,
         FIRST,
     ];
     let places = "host=0 drive=0 reads=1 writes=66";

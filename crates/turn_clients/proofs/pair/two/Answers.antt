@@ -1,4 +1,0 @@
-use Rattle.turn_clients.proofs.pair.two.Goals as goal
-
-pub returns-clause-whole : goal.returns-clause-whole
-returns-clause-whole g c = rw c.close.ensures.front c.close.ensures.whole
