@@ -2,13 +2,14 @@
 use Rattle.std.proofs.Common.{◌≡◌, ℕ, ◌+◌, ◌-◌, ◌*◌, ◌≤◌, ◌/◌, ◌%◌, ◌^◌, Bool, true, false, List, [], ◌∷◌, length, take, drop, Option, Some, None, refl, sym, ap, ◌∙◌, arith, length-take, length-drop, length-append}
 use Rattle.std.specs.Prelude.{nat_le, min, replicate, if◌then◌else◌}
 use Rattle.std.specs.List.{concat}
+use Rattle.std.proofs.lemmas.Bool.Decides.{nat_tests}
 use Rattle.sbpf_insn.specs.declared.insn.Size.{Size}
 use Rattle.sbpf_insn.specs.Machine.{shaped, context_of, load, store, load_writable, number_at, put_number, size_len}
 use Rattle.sbpf_exec.specs.declared.region.Region.{Region}
 use Rattle.sbpf_exec.specs.declared.region.Region.TheVariants.{Flat, Paged}
 use Rattle.sbpf_exec.specs.declared.regions.Regions.{Regions}
 use Rattle.sbpf_exec.specs.Buffers.{AreWhole, IsPlaced, region_bytes}
-use Rattle.sbpf_exec.specs.Parts.{IsShaped, machine_regions, lengths_context}
+use Rattle.sbpf_exec.specs.Parts.{IsShaped, IsInInput, IsInStack, machine_regions, lengths_context}
 use Rattle.sbpf_exec.proofs.Areas.{AreShort, load_input, load_output, load_stack, store_output, store_stack, writable_output, writable_stack}
 
 pub length-joined : (pages : List (List ℕ)) → AreWhole pages → length (concat pages) ≡ 4096 * length pages
@@ -57,6 +58,20 @@ pub loads_stack : (r : Regions) (top address : ℕ) (s : Size) (result : Option 
 loads_stack r top address s result shaped area e =
     e ∙ ap (λ (n : ℕ). number_if s r.stack (min n (top - 0x500000000)) (address % 2 ^ 32)) (sym shaped.stack)
     ∙ sym (load_stack (machine_regions r) top address s (short r shaped) area)
+
+-- where an access lies wholly in a region
+number_held : (s : Size) (bytes : List ℕ) (n at v : ℕ) → at + size_len s ≤ n → v ≡ number_at s bytes at → Some v ≡ number_if s bytes n at
+number_held s bytes n at v fits is =
+    let yes : nat_le (at + size_len s) n ≡ true = grind (arith, nat_tests) in
+    rw (yes, is) refl
+
+pub held_input : (r : Regions) (top address v : ℕ) (s : Size) → IsShaped r → IsInInput r address s → v ≡ number_at s (take r.input_len (region_bytes r.input)) (address % 2 ^ 32) → load (machine_regions r) top address s ≡ Some v
+held_input r top address v s shaped inside is =
+    sym (loads_input r top address s (Some v) shaped inside.0 (number_held s (take r.input_len (region_bytes r.input)) r.input_len (address % 2 ^ 32) v inside.1 is))
+
+pub held_stack : (r : Regions) (top address v : ℕ) (s : Size) → IsShaped r → IsInStack top address s → v ≡ number_at s r.stack (address % 2 ^ 32) → load (machine_regions r) top address s ≡ Some v
+held_stack r top address v s shaped inside is =
+    sym (loads_stack r top address s (Some v) shaped inside.0 (number_held s r.stack (min 4096 (top - 0x500000000)) (address % 2 ^ 32) v inside.1 is))
 
 pub fetches_output : (r : Regions) (top address : ℕ) (s : Size) (result : Option ℕ) → IsShaped r → address / 2 ^ 32 ≡ 3 → result ≡ number_if s (take r.output_len (region_bytes r.output)) r.output_len (address % 2 ^ 32) → result ≡ load_writable (machine_regions r) top address s
 fetches_output r top address s result shaped area e =
