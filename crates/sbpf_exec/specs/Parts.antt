@@ -49,9 +49,12 @@ pub record WritesWithin (old new : Regions) : Type 0 where
   pub kept : new ≡ record old { output = new.output; stack = new.stack }
   pub output : DiffersWithin old.output_len old.output new.output
 
--- an access of this size lies wholly in the input, or in the stack below `top`
+-- an access of this size lies wholly in the input, in the output, or in the stack below `top`
 abbrev pub IsInInput : Regions → ℕ → Size → Type 0
 IsInInput r address s = (address / 2 ^ 32 ≡ 2) × (address % 2 ^ 32 + size_len s ≤ r.input_len)
+
+abbrev pub IsInOutput : Regions → ℕ → Size → Type 0
+IsInOutput r address s = (address / 2 ^ 32 ≡ 3) × (address % 2 ^ 32 + size_len s ≤ r.output_len)
 
 abbrev pub IsInStack : ℕ → ℕ → Size → Type 0
 IsInStack top address s = (address / 2 ^ 32 ≡ 5) × (address % 2 ^ 32 + size_len s ≤ min 4096 (top - 0x500000000))

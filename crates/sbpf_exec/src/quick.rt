@@ -4,7 +4,7 @@ ghost use Rattle.sbpf_insn.specs.Table.{is_src};
 ghost use Rattle.sbpf_insn.specs.declared.insn.Src.TheVariants as src;
 ghost use Rattle.sbpf_insn.specs.Arithmetic.{extended, movsx_of, swap_of};
 ghost use Rattle.sbpf_insn.specs.Machine as machine;
-ghost use Rattle.sbpf_insn.specs.Machine.{Goes, step, step_at, operand, address, alu_of, neg_of, jumped, target, holds, call, leave, size_width, load_step, store, store_step};
+ghost use Rattle.sbpf_insn.specs.Machine.{Goes, step, step_at, after_slot, operand, address, alu_of, neg_of, jumped, target, holds, call, leave, size_width, load_step, store, store_step};
 ghost use Rattle.sbpf_exec.specs.Steps.{state, advanced, to_store, Reaches};
 ghost use Rattle.sbpf_exec.specs.Parts.{machine_regions, IsShaped, WritesWithin};
 ghost use Rattle.sbpf_exec.specs.FlatCells.{insn_of, is_formed, Stands, Mirrors};
@@ -35,7 +35,7 @@ pub enum Advance {
 }
 
 // An operation.
-#[inline]
+#[inline(always)]
 fn operates(cpu: &mut Cpu, wide: bool, op: AluOp, dst: Reg, src: Src) -> Advance
     requires dst { dst.n ≤ 10 }
     requires src { IsTrue (is_src src) }
@@ -114,7 +114,7 @@ fn leaves(cpu: &mut Cpu, slot: u32) -> Advance
 }
 
 // A conditional jump, on 64 bits where it is wide.
-#[inline]
+#[inline(always)]
 fn jumps(cpu: &Cpu, slot: u32, wide: bool, cond: Cond, dst: Reg, src: Src, offset: i16) -> Advance
     requires dst { dst.n ≤ 10 }
     requires src { IsTrue (is_src src) }
@@ -169,7 +169,7 @@ fn jump32_reg(cpu: &Cpu, slot: u32, cond: Cond, dst: Reg, from: Reg, offset: i16
 }
 
 // A load; `Slow`, and nothing changes, where it traps.
-#[inline]
+#[inline(always)]
 fn load(
     cpu: &mut Cpu,
     regions: &Regions,
@@ -199,6 +199,11 @@ fn load(
         set(cpu, dst, value);
         return Advance::Next;
     }
+    if regions.is_in_output(address, size) {
+        let value = regions.output_number(top, address, size);
+        set(cpu, dst, value);
+        return Advance::Next;
+    }
     match regions.load_far(top, address, size) {
         None => Advance::Slow,
         Some(value) => {
@@ -209,7 +214,7 @@ fn load(
 }
 
 // A load with its sign; `Slow`, and nothing changes, where it traps.
-#[inline]
+#[inline(always)]
 fn load_signed(
     cpu: &mut Cpu,
     regions: &Regions,
@@ -260,7 +265,7 @@ fn put(cpu: &Cpu, size: Size, base: Reg, offset: i16, src: Src) -> Advance
 
 // The step of a cell's instruction, up to what it stores; `Slow`, and nothing changes, where the cell has
 // none or it may trap.
-#[inline]
+#[inline(always)]
 fn quick_step(cell: &Cell, cpu: &mut Cpu, regions: &Regions, slot: u32) -> Advance
     requires formed { IsTrue (is_formed (insn_of cell.now)) }
     requires shaped { IsShaped regions.now }
@@ -393,7 +398,7 @@ fn quick_step(cell: &Cell, cpu: &mut Cpu, regions: &Regions, slot: u32) -> Advan
 }
 
 // A store, with code of its own for each size.
-#[inline]
+#[inline(always)]
 fn makes_store(regions: &mut Regions, top: u64, address: u64, size: Size, value: u64) -> bool
     requires shaped { IsShaped regions.old }
     ensures done { IsTrue result → store (machine_regions regions.old) top address size value ≡ Some (machine_regions regions.new) }
@@ -411,7 +416,7 @@ fn makes_store(regions: &mut Regions, top: u64, address: u64, size: Size, value:
 }
 
 // The step of a cell's instruction; `Slow`, and nothing changes, where the cell has none or it may trap.
-#[inline]
+#[inline(always)]
 fn whole_step(cell: &Cell, cpu: &mut Cpu, regions: &mut Regions, slot: u32) -> Advance
     requires formed { IsTrue (is_formed (insn_of cell.now)) }
     requires shaped { IsShaped regions.old }
@@ -439,25 +444,26 @@ fn whole_step(cell: &Cell, cpu: &mut Cpu, regions: &mut Regions, slot: u32) -> A
     }
 }
 
-// A wide load; `Slow`, and nothing changes, where none begins at the slot.
-#[inline]
+// Makes the step of a wide load; false, and nothing changes, where none begins at the slot. It is a call,
+// since the whole instruction takes room that each step would clear.
+#[inline(never)]
 #[tactic(auto, unfolding(sbpf_insn::specs::Machine::step))]
-fn loads_wide(code: &Code, cpu: &mut Cpu, slot: u32) -> Advance
-    ensures next { (m : machine.Regions) → IfSome (advanced result slot) (λ n. step code.now.insns (state cpu.old slot m) ≡ Goes (state cpu.new n m)) }
-    ensures none { advanced result slot ≡ None → cpu.new ≡ cpu.old }
+fn loads_wide(code: &Code, cpu: &mut Cpu, slot: u32) -> bool
+    ensures done { IsTrue result → (m : machine.Regions) → step code.now.insns (state cpu.old slot m) ≡ Goes (state cpu.new (after_slot slot 2) m) }
+    ensures none { IsFalse result → cpu.new ≡ cpu.old }
 {
     match code.at_slot(slot) {
         Some(Insn::LoadWide { dst, value }) => {
             set(cpu, dst, value);
-            Advance::To(next(slot, 2))
+            true
         }
-        _ => Advance::Slow,
+        _ => false,
     }
 }
 
 // The step of the code at a slot, whose cell this is; `Slow`, and nothing changes, where it may trap, or
 // is atomic.
-#[inline]
+#[inline(always)]
 fn code_step(code: &Code, cell: &Cell, cpu: &mut Cpu, regions: &mut Regions, slot: u32) -> Advance
     requires stands { Stands (insn_of cell.now) (at_slot code.now.insns slot) }
     requires shaped { IsShaped regions.old }
@@ -470,7 +476,13 @@ fn code_step(code: &Code, cell: &Cell, cpu: &mut Cpu, regions: &mut Regions, slo
     match whole_step(cell, cpu, regions, slot) {
         Advance::Next => Advance::Next,
         Advance::To(to) => Advance::To(to),
-        _ => loads_wide(code, cpu, slot),
+        _ => {
+            if loads_wide(code, cpu, slot) {
+                Advance::To(next(slot, 2))
+            } else {
+                Advance::Slow
+            }
+        }
     }
 }
 
@@ -508,25 +520,29 @@ pub(crate) fn quick_run(
 {
     let end = code.slots();
     let most = if fuel > MOST { MOST } else { fuel };
-    let mut slot = first;
+    let mut slot = first as usize;
     let mut credit = most + first as u64;
     if cells.len() <= end as usize || end < first || credit <= end as u64 {
-        return Reached { steps: 0, slot };
+        return Reached {
+            steps: 0,
+            slot: first,
+        };
     }
     loop {
-        match code_step(code, &cells[slot as usize], cpu, regions, slot) {
+        match code_step(code, &cells[slot], cpu, regions, slot as u32) {
             Advance::Next => slot += 1,
             Advance::To(to) => {
                 let left = credit - slot as u64 - 1;
-                slot = to;
+                slot = to as usize;
                 credit = left + to as u64;
                 if end < to || credit <= end as u64 {
                     let steps = most - left;
-                    return Reached { steps, slot };
+                    return Reached { steps, slot: to };
                 }
             }
             _ => {
                 let steps = most - (credit - slot as u64);
+                let slot = slot as u32;
                 return Reached { steps, slot };
             }
         }

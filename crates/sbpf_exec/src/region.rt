@@ -48,7 +48,7 @@ fn are_whole(pages: &[Page])
 }
 
 // The number at a place of the first len bytes of a region, where it is wholly there.
-#[inline]
+#[inline(always)]
 #[tactic(auto, using(crate::proofs::Windows::flat_read, crate::proofs::Windows::paged_read))]
 pub(crate) fn inside_number(region: &Region, len: usize, at: usize, size: Size) -> u64
     requires placed { IsPlaced region.now len }

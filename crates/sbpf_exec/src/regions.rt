@@ -3,7 +3,7 @@ ghost use Rattle.std.specs.Prelude.{◌≡◌, ◌+◌, ◌-◌, ◌^◌, ◌<�
 ghost use Rattle.std.specs.Borrow.{sem};
 ghost use Rattle.sbpf_insn.specs.Machine.{load, load_writable, store, shaped, number_at, put_number, size_len};
 ghost use Rattle.sbpf_exec.specs.Buffers.{Fits, placed, part};
-ghost use Rattle.sbpf_exec.specs.Parts.{lengths_context, IsInInput, IsInStack, input_of, output_of, param_of, machine_regions, IsShaped, WritesWithin};
+ghost use Rattle.sbpf_exec.specs.Parts.{lengths_context, IsInInput, IsInOutput, IsInStack, input_of, output_of, param_of, machine_regions, IsShaped, WritesWithin};
 ghost use Rattle.sbpf_exec.specs.Lending.{LendsInput, LendsOutput};
 
 use crate::number::{number, put_number, size_len};
@@ -142,7 +142,7 @@ impl Regions {
     }
 
     // The number at an address in the input, whatever r10 is.
-    #[inline]
+    #[inline(always)]
     pub(crate) fn input_number(&self, top: u64, address: u64, size: Size) -> u64
         requires shaped { IsShaped self.now }
         requires inside { IsInInput self.now address size }
@@ -150,6 +150,26 @@ impl Regions {
     {
         let at = (address % 0x1_0000_0000) as usize;
         inside_number(&self.input, self.input_len, at, size)
+    }
+
+    // Whether a number at an address lies wholly in the output.
+    #[inline]
+    pub(crate) fn is_in_output(&self, address: u64, size: Size) -> bool
+        ensures { IsTrue result → IsInOutput self.now address size }
+    {
+        let at = (address % 0x1_0000_0000) as usize;
+        address / 0x1_0000_0000 == 3 && at + size_len(size) <= self.output_len
+    }
+
+    // The number at an address in the output, whatever r10 is.
+    #[inline(always)]
+    pub(crate) fn output_number(&self, top: u64, address: u64, size: Size) -> u64
+        requires shaped { IsShaped self.now }
+        requires inside { IsInOutput self.now address size }
+        ensures { load (machine_regions self.now) top address size ≡ Some result }
+    {
+        let at = (address % 0x1_0000_0000) as usize;
+        inside_number(&self.output, self.output_len, at, size)
     }
 
     // Whether a number at an address lies wholly in the stack below r10.
@@ -163,7 +183,7 @@ impl Regions {
     }
 
     // The number at an address in the stack.
-    #[inline]
+    #[inline(always)]
     pub(crate) fn number_in_stack(&self, top: u64, address: u64, size: Size) -> u64
         requires shaped { IsShaped self.now }
         requires inside { IsInStack top address size }
@@ -205,7 +225,7 @@ impl Regions {
     }
 
     // The same write, soonest to the stack.
-    #[inline]
+    #[inline(always)]
     pub(crate) fn store_near(&mut self, top: u64, address: u64, size: Size, value: u64) -> bool
         requires { IsShaped self.old }
         ensures done { IsTrue result → store (machine_regions self.old) top address size value ≡ Some (machine_regions self.new) }
@@ -214,13 +234,12 @@ impl Regions {
         ensures within { WritesWithin self.old self.new }
         ensures shaped { IsShaped self.new }
     {
-        let at = (address % 0x1_0000_0000) as usize;
-        let area = address / 0x1_0000_0000;
-        if area == 5 {
-            put_in_stack(&mut self.stack, top, at, size, value)
-        } else {
-            self.store_far(top, address, size, value)
+        if self.is_in_stack(top, address, size) {
+            let at = (address % 0x1_0000_0000) as usize;
+            put_in_one(&mut self.stack, at, size, value);
+            return true;
         }
+        self.store_far(top, address, size, value)
     }
 
     // The same write, by a call.

@@ -9,12 +9,6 @@ use Rattle.sbpf_exec.proofs.Runs.{reach_more}
 use Rattle.sbpf_exec.proofs.quick.quick_run.Goals as goal
 use Rattle.sbpf_exec.proofs.quick.quick_run.Goals.{then-fuel-gt-MOST, else-fuel-gt-MOST}
 
-pub overflow_add-slot : goal.overflow_add-slot
-overflow_add-slot c =
-    let mid = state c.loop-slot.cpu c.loop-slot.slot (machine_regions c.loop-slot.regions) in
-    let lt : c.loop-slot.slot < slots c.args.code.now.insns = goes_within c.args.code.now.insns mid _ c.in-Next.ensures.next in
-    omega (arith, lt, c.slots-end.ensures.count)
-
 pub loop-slot-preserved-in-Next : goal.loop-slot-preserved-in-Next
 loop-slot-preserved-in-Next c =
     let slot = c.loop-slot.slot in
