@@ -224,7 +224,7 @@ impl Regions {
         }
     }
 
-    // The same write, soonest to the stack.
+    // The same write, soonest to the stack and to the output.
     #[inline(always)]
     pub(crate) fn store_near(&mut self, top: u64, address: u64, size: Size, value: u64) -> bool
         requires { IsShaped self.old }
@@ -238,6 +238,10 @@ impl Regions {
             let at = (address % 0x1_0000_0000) as usize;
             put_in_one(&mut self.stack, at, size, value);
             return true;
+        }
+        if self.is_in_output(address, size) {
+            let at = (address % 0x1_0000_0000) as usize;
+            return put_in_region(&mut self.output, self.output_len, at, size, value);
         }
         self.store_far(top, address, size, value)
     }
