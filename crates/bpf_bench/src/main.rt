@@ -1,17 +1,19 @@
-//! Runs a function over line feeds in pages, or over nothing, and prints how many units of fuel it used.
+//! Runs a function over an input in pages many times, and prints how many units of fuel it used.
 //!
 //! `bpf_bench lines N` counts the lines of a piece of 256 KiB N times; `bpf_bench spin N` loops over
-//! arithmetic N times. A script measures the time.
+//! arithmetic N times; `bpf_bench code N OBJECT INPUT` runs the function of an object N times over the
+//! first 256 KiB of the file INPUT. A script measures the time.
 #![tactic(auto)]
 
-ghost use Rattle.std.specs.Prelude.{◌≡◌, length, IfOk};
+ghost use Rattle.std.specs.Prelude.{◌≡◌, ◌≤◌, length, IfOk, IfSome};
 ghost use Rattle.sbpf_exec.specs.Parts.{IsShaped};
 
-use edge_io::Bytes;
+use edge_io::{Bytes, HostRoom, Room};
 use page_base::Page;
 use sbpf_exec::{Outcome, Region, Regions, run};
 use sbpf_insn::{Code, decode};
 use std::alloc::{AllocError, Global};
+use std::rt::Files;
 use std::{env, io};
 
 // ldxdw r2, [r1+0]; ldxdw r3, [r1+8]; ldxdw r4, [r1+16]; add r3, r2;
@@ -27,36 +29,66 @@ const SPIN: [u8; 88] =
 
 const PAGES: usize = 64;
 
+const MOST: usize = 262_144;
+
 const FUEL: u64 = 200_000_000;
 
-fn pages(alloc: Global) -> Result<Vec<Page>, AllocError>
+const USAGE: &str = "usage: bpf_bench lines|spin TIMES, or bpf_bench code TIMES OBJECT INPUT";
+
+// Pages with the first bytes, and zeros behind them.
+fn pages(alloc: Global, bytes: &[u8]) -> Result<Vec<Page>, AllocError>
     ensures { IfOk result (λ pages. length pages.items ≡ 64) }
 {
     let mut pages = Vec::with_capacity(alloc, PAGES)?;
-    for _ in 0..PAGES {
+    for i in 0..PAGES {
         let mut page = Page::zero(alloc)?;
-        page.patch(0, &[10; 4096]);
+        let from = bytes.len().min(4096 * i);
+        let to = bytes.len().min(4096 * i + 4096);
+        page.patch(0, &bytes[from..to]);
         pages.push(page)?;
     }
     Ok(pages)
 }
 
-// The units that so many runs over 256 KiB of line feeds use; None where memory runs out.
-fn measure(alloc: Global, bytes: &[u8], times: u64) -> Option<u64> {
-    let code = decode(alloc, bytes).ok()?;
-    let pages = pages(alloc).ok()?;
+// How many bytes of an input are run over.
+fn run_over(input: &[u8]) -> usize
+    ensures { result ≤ 262144 }
+{
+    if input.len() > MOST {
+        MOST
+    } else {
+        input.len()
+    }
+}
+
+// Regions for runs over the first bytes of these pages.
+fn shaped(alloc: Global, pages: Vec<Page>, len: usize) -> Option<Regions>
+    requires pages { length pages.items ≡ 64 }
+    requires len { len ≤ 262144 }
+    ensures { IfSome result IsShaped }
+{
     let input = Region::Paged {
         pages,
         start: 0,
         len: 0,
     };
-    let output = vec![in alloc; 0; 8].ok()?;
+    let output = vec![in alloc; 0; 64].ok()?;
     let output = Region::Flat(Bytes::new(output));
-    let Ok(regions) = Regions::new(alloc, input, output, Bytes::new(Vec::new(alloc))) else {
+    let param = vec![in alloc; 10; 8].ok()?;
+    let Ok(regions) = Regions::new(alloc, input, output, Bytes::new(param)) else {
         return None;
     };
     let mut regions = regions;
-    regions.shape(0, 262_144, 0, 8);
+    regions.shape(0, len, 0, 64);
+    Some(regions)
+}
+
+// The units that so many runs over the first 256 KiB of the input use; None where the bytes are no code,
+// or memory runs out.
+fn measure(alloc: Global, bytes: &[u8], input: &[u8], times: u64) -> Option<u64> {
+    let code = decode(alloc, bytes).ok()?;
+    let pages = pages(alloc, input).ok()?;
+    let mut regions = shaped(alloc, pages, run_over(input))?;
     Some(runs(&code, &mut regions, times))
 }
 
@@ -73,27 +105,54 @@ fn runs(code: &Code, regions: &mut Regions, times: u64) -> u64
     units
 }
 
-// How many times, and which function; None where the words are others.
-fn asked(name: &str, times: &str) -> Option<(&'static [u8], u64)> {
-    let times = times.parse().ok()?;
-    match name {
-        "lines" => Some((LINES.as_slice(), times)),
-        "spin" => Some((SPIN.as_slice(), times)),
-        _ => None,
+// The same, of an object, whose code is behind a head of 8 bytes, and of an input in two files; None also
+// where one can't be read.
+fn measure_files<R: Files>(
+    rt: &R,
+    alloc: Global,
+    object: &str,
+    input: &str,
+    times: u64,
+) -> Option<u64> {
+    let mut room = HostRoom::new(rt);
+    let mut bytes = Vec::new(alloc);
+    room.read(object, &mut bytes).ok()?;
+    if bytes.len() < 8 {
+        return None;
     }
+    let mut content = Vec::new(alloc);
+    room.read(input, &mut content).ok()?;
+    measure(alloc, &bytes[8..], &content, times)
+}
+
+fn measure_own(alloc: Global, bytes: &[u8], times: u64) -> Option<u64> {
+    let input = vec![in alloc; 10; MOST].ok()?;
+    measure(alloc, bytes, &input, times)
 }
 
 fn main(rt: HostRuntime) -> io::Result<()> {
     let mut words = env::args(&rt)?;
     let _program = words.next();
     let (Some(name), Some(times)) = (words.next(), words.next()) else {
-        return println!(rt; "usage: bpf_bench lines|spin TIMES");
+        return println!(rt; "{USAGE}");
     };
-    let Some((bytes, times)) = asked(&name, &times) else {
-        return println!(rt; "usage: bpf_bench lines|spin TIMES");
+    let Ok(times) = times.parse() else {
+        return println!(rt; "{USAGE}");
     };
-    match measure(rt.alloc(), bytes, times) {
+    let units = match (name.as_str(), words.next(), words.next()) {
+        ("lines", None, None) => measure_own(rt.alloc(), LINES.as_slice(), times),
+        ("spin", None, None) => measure_own(rt.alloc(), SPIN.as_slice(), times),
+        ("code", Some(object), Some(input)) => measure_files(
+            &rt,
+            rt.alloc(),
+            &object,
+            &input,
+            times,
+        ),
+        _ => return println!(rt; "{USAGE}"),
+    };
+    match units {
         Some(units) => println!(rt; "units={units}"),
-        None => println!(rt; "no memory"),
+        None => println!(rt; "not measured"),
     }
 }

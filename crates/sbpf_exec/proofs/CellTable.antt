@@ -46,6 +46,11 @@ pub goes_same : (o begins : Option Insn) (m next : State) → Stands o begins �
 goes_same None begins m next stands goes = absurd cc
 goes_same (Some i) begins m next stands goes = ap (λ (x : Option Insn). step_at x m) stands.0 ∙ goes
 
+-- the same of a step of the code
+pub step_goes : (o : Option Insn) (code : List Insn) (m next : State) → Stands o (at_slot code m.slot) → step_at o m ≡ Goes next → step code m ≡ Goes next
+unfolding step
+step_goes o code m next stands goes = goes_same o (at_slot code m.slot) m next stands goes
+
 -- what was loaded is what a load gives
 pub loaded_is : (o load : Option ℕ) → o ≡ load → IfSome o (λ v. load ≡ Some v)
 loaded_is None load e = tt

@@ -31,6 +31,15 @@ held (Some i) e = (i, refl)
 some_is : (o : Option Insn) (i : Insn) → o ≡ Some i → is_some o ≡ true
 some_is o i e = ap is_some e
 
+goes_some : (o : Option Insn) (m next : State) → step_at o m ≡ Goes next → (i : Insn) × (o ≡ Some i)
+goes_some None m next goes = absurd cc
+goes_some (Some i) m next goes = (i, refl)
+
+-- where a step goes on, it is made inside the code
+pub goes_within : (code : List Insn) (m next : State) → step code m ≡ Goes next → m.slot < slots code
+unfolding step
+goes_within code m next goes = let h = goes_some (at_slot code m.slot) m next goes in within code m.slot h.0 h.1
+
 within_some : (code : List Insn) (s : ℕ) → is_some (at_slot code s) ≡ true → s < slots code
 within_some code s e = let h = held (at_slot code s) e in within code s h.0 h.1
 

@@ -2,13 +2,14 @@
 use Rattle.std.proofs.Common.{◌≡◌, ℕ, ◌+◌, ◌-◌, ◌*◌, ◌≤◌, ◌/◌, ◌%◌, ◌^◌, Bool, true, false, List, [], ◌∷◌, length, take, drop, Option, Some, None, refl, sym, ap, ◌∙◌, arith, length-take, length-drop, length-append}
 use Rattle.std.specs.Prelude.{nat_le, min, replicate, if◌then◌else◌}
 use Rattle.std.specs.List.{concat}
+use Rattle.std.proofs.lemmas.Bool.Decides.{nat_tests}
 use Rattle.sbpf_insn.specs.declared.insn.Size.{Size}
 use Rattle.sbpf_insn.specs.Machine.{shaped, context_of, load, store, load_writable, number_at, put_number, size_len}
 use Rattle.sbpf_exec.specs.declared.region.Region.{Region}
 use Rattle.sbpf_exec.specs.declared.region.Region.TheVariants.{Flat, Paged}
 use Rattle.sbpf_exec.specs.declared.regions.Regions.{Regions}
 use Rattle.sbpf_exec.specs.Buffers.{AreWhole, IsPlaced, region_bytes}
-use Rattle.sbpf_exec.specs.Parts.{IsShaped, machine_regions, lengths_context}
+use Rattle.sbpf_exec.specs.Parts.{IsShaped, IsInInput, IsInOutput, IsInStack, machine_regions, lengths_context}
 use Rattle.sbpf_exec.proofs.Areas.{AreShort, load_input, load_output, load_stack, store_output, store_stack, writable_output, writable_stack}
 
 pub length-joined : (pages : List (List ℕ)) → AreWhole pages → length (concat pages) ≡ 4096 * length pages
@@ -58,6 +59,24 @@ loads_stack r top address s result shaped area e =
     e ∙ ap (λ (n : ℕ). number_if s r.stack (min n (top - 0x500000000)) (address % 2 ^ 32)) (sym shaped.stack)
     ∙ sym (load_stack (machine_regions r) top address s (short r shaped) area)
 
+-- where an access lies wholly in a region
+number_held : (s : Size) (bytes : List ℕ) (n at v : ℕ) → at + size_len s ≤ n → v ≡ number_at s bytes at → Some v ≡ number_if s bytes n at
+number_held s bytes n at v fits is =
+    let yes : nat_le (at + size_len s) n ≡ true = grind (arith, nat_tests) in
+    rw (yes, is) refl
+
+pub held_input : (r : Regions) (top address v : ℕ) (s : Size) → IsShaped r → IsInInput r address s → v ≡ number_at s (take r.input_len (region_bytes r.input)) (address % 2 ^ 32) → load (machine_regions r) top address s ≡ Some v
+held_input r top address v s shaped inside is =
+    sym (loads_input r top address s (Some v) shaped inside.0 (number_held s (take r.input_len (region_bytes r.input)) r.input_len (address % 2 ^ 32) v inside.1 is))
+
+pub held_output : (r : Regions) (top address v : ℕ) (s : Size) → IsShaped r → IsInOutput r address s → v ≡ number_at s (take r.output_len (region_bytes r.output)) (address % 2 ^ 32) → load (machine_regions r) top address s ≡ Some v
+held_output r top address v s shaped inside is =
+    sym (loads_output r top address s (Some v) shaped inside.0 (number_held s (take r.output_len (region_bytes r.output)) r.output_len (address % 2 ^ 32) v inside.1 is))
+
+pub held_stack : (r : Regions) (top address v : ℕ) (s : Size) → IsShaped r → IsInStack top address s → v ≡ number_at s r.stack (address % 2 ^ 32) → load (machine_regions r) top address s ≡ Some v
+held_stack r top address v s shaped inside is =
+    sym (loads_stack r top address s (Some v) shaped inside.0 (number_held s r.stack (min 4096 (top - 0x500000000)) (address % 2 ^ 32) v inside.1 is))
+
 pub fetches_output : (r : Regions) (top address : ℕ) (s : Size) (result : Option ℕ) → IsShaped r → address / 2 ^ 32 ≡ 3 → result ≡ number_if s (take r.output_len (region_bytes r.output)) r.output_len (address % 2 ^ 32) → result ≡ load_writable (machine_regions r) top address s
 fetches_output r top address s result shaped area e =
     e ∙ ap (λ (n : ℕ). number_if s (take r.output_len (region_bytes r.output)) n (address % 2 ^ 32)) (sym (placed_len r.output r.output_len shaped.output))
@@ -101,6 +120,11 @@ stores_stack r new top address v s done shaped area is bytes held =
     let e = store_stack (machine_regions r) top address v s (short r shaped) area in
     let fits' : nat_le (address % 2 ^ 32 + size_len s) (min (length r.stack) (top - 0x500000000)) ≡ true = ap (λ (n : ℕ). nat_le (address % 2 ^ 32 + size_len s) (min n (top - 0x500000000))) shaped.stack ∙ fits in
     e ∙ rw (fits', wrote) refl
+
+pub put_in_held : (r : Regions) (new : List ℕ) (top address v : ℕ) (s : Size) → IsShaped r → IsInStack top address s → new ≡ put_number s r.stack (address % 2 ^ 32) v → store (machine_regions r) top address s v ≡ Some (machine_regions (record r { stack = new }))
+put_in_held r new top address v s shaped inside is =
+    let yes : nat_le (address % 2 ^ 32 + size_len s) (min 4096 (top - 0x500000000)) ≡ true = grind (arith, nat_tests) in
+    stores_stack r new top address v s true shaped inside.0 (sym yes) (rw yes is) refl
 
 pub refuses_stack : (r : Regions) (top address v : ℕ) (s : Size) (done : Bool) → IsShaped r → address / 2 ^ 32 ≡ 5 → done ≡ nat_le (address % 2 ^ 32 + size_len s) (min 4096 (top - 0x500000000)) → done ≡ false → store (machine_regions r) top address s v ≡ None
 refuses_stack r top address v s done shaped area is failed =

@@ -1,9 +1,10 @@
 -- The regions of a run: what they hold for a caller, and what the machine sees of them. This
 -- project's own.
-use Rattle.std.specs.Prelude.{◌≡◌, ℕ, ◌^◌, ◌≤◌, List, ◌++◌, length, take}
+use Rattle.std.specs.Prelude.{◌≡◌, ℕ, ◌+◌, ◌-◌, ◌/◌, ◌%◌, ◌^◌, ◌≤◌, min, List, ◌++◌, length, take}
 use Rattle.std.specs.Int.{w64, to_le_bytes}
 use Rattle.sbpf_insn.specs.Machine as machine
-use Rattle.sbpf_insn.specs.Machine.{base, Input, Output, Param}
+use Rattle.sbpf_insn.specs.Machine.{base, Input, Output, Param, size_len}
+use Rattle.sbpf_insn.specs.declared.insn.Size.{Size}
 use Rattle.sbpf_exec.specs.declared.region.Region.{Region}
 use Rattle.sbpf_exec.specs.declared.regions.Regions.{Regions}
 use Rattle.sbpf_exec.specs.Buffers.{region_bytes, IsPlaced, DiffersWithin}
@@ -47,3 +48,13 @@ pub record IsShaped (r : Regions) : Type 0 where
 pub record WritesWithin (old new : Regions) : Type 0 where
   pub kept : new ≡ record old { output = new.output; stack = new.stack }
   pub output : DiffersWithin old.output_len old.output new.output
+
+-- an access of this size lies wholly in the input, in the output, or in the stack below `top`
+abbrev pub IsInInput : Regions → ℕ → Size → Type 0
+IsInInput r address s = (address / 2 ^ 32 ≡ 2) × (address % 2 ^ 32 + size_len s ≤ r.input_len)
+
+abbrev pub IsInOutput : Regions → ℕ → Size → Type 0
+IsInOutput r address s = (address / 2 ^ 32 ≡ 3) × (address % 2 ^ 32 + size_len s ≤ r.output_len)
+
+abbrev pub IsInStack : ℕ → ℕ → Size → Type 0
+IsInStack top address s = (address / 2 ^ 32 ≡ 5) × (address % 2 ^ 32 + size_len s ≤ min 4096 (top - 0x500000000))

@@ -2,8 +2,11 @@
 //! run jumps once. Wide loads and atomic operations are left to the step of an instruction.
 use sbpf_insn::{AluOp, Order, Reg};
 
-/// How many cells a table has: accepted code has no more slots.
-pub(crate) const CELLS: usize = 4096;
+/// How many cells a table has: accepted code has fewer slots.
+pub(crate) const CELLS: usize = 4097;
+
+/// How many cells the table of short code has, which is sooner made.
+pub(crate) const FEW_CELLS: usize = 256;
 
 /// What begins at a slot: one of these instructions, or `Other`, which says nothing of it. A variant that
 /// is named for its operation works on 64 bits, and on 32 where its name has 32; `AluImm` and `AluReg` have

@@ -8,7 +8,7 @@ ghost use Rattle.sbpf_exec.specs.Inside.{StaysInside};
 ghost use Rattle.sbpf_exec.specs.FlatCells.{Mirrors};
 ghost use Rattle.sbpf_exec.specs.Outcomes.{outcome_of, UsesAtMost};
 
-use crate::cells::{CELLS, Cell};
+use crate::cells::{CELLS, Cell, FEW_CELLS};
 use crate::cpu::Cpu;
 use crate::flatten::flatten;
 use crate::quick::quick_run;
@@ -45,7 +45,7 @@ pub enum Outcome {
 /// Runs the code from its first slot over regions that were shaped, for at most `fuel` instructions.
 ///
 /// It is the run that the machine's definitions describe, on the joined bytes of the regions. Pages
-/// are read and written where they lie, and no memory is taken but the stack's, for a table of 4,096 cells.
+/// are read and written where they lie, and no memory is taken but the stack's, for a table of 4,097 cells.
 /// Input, parameter and context stay as they are; of the output's buffer only bytes within the output's
 /// length may differ.
 ///
@@ -59,6 +59,11 @@ pub fn run(code: &Code, regions: &mut Regions, fuel: u64) -> Outcome
     ensures within { WritesWithin regions.old regions.new }
     ensures shaped { IsShaped regions.new }
 {
+    if (code.slots() as usize) < FEW_CELLS {
+        let mut cells = [Cell::Other; FEW_CELLS];
+        flatten(code, &mut cells);
+        return run_over(code, &cells, regions, fuel);
+    }
     let mut cells = [Cell::Other; CELLS];
     flatten(code, &mut cells);
     run_over(code, &cells, regions, fuel)
@@ -66,7 +71,7 @@ pub fn run(code: &Code, regions: &mut Regions, fuel: u64) -> Outcome
 
 // The run over a table of the code's cells.
 #[inline(never)]
-fn run_over(code: &Code, cells: &[Cell; CELLS], regions: &mut Regions, fuel: u64) -> Outcome
+fn run_over(code: &Code, cells: &[Cell], regions: &mut Regions, fuel: u64) -> Outcome
     requires mirrors { Mirrors cells.now code.now.insns }
     requires shaped { IsShaped regions.old }
     ensures outcome { machine.run code.now.insns (machine_regions regions.old) fuel ≡ outcome_of result (machine_regions regions.new).output }

@@ -9,7 +9,7 @@ use page_base::Page;
 use sbpf_insn::Size;
 
 /// The number at a place `at` behind `start`, in the pages as one list.
-#[inline]
+#[inline(always)]
 pub(crate) fn paged_number(pages: &[Page], start: usize, at: usize, size: Size) -> u64
     requires whole { AreWhole pages.now }
     requires near { at < 2 ^ 32 }
@@ -27,7 +27,7 @@ pub(crate) fn paged_number(pages: &[Page], start: usize, at: usize, size: Size) 
 }
 
 /// The number at a place of one page.
-#[inline]
+#[inline(always)]
 pub(crate) fn page_number(page: &Page, at: usize, size: Size) -> u64
     requires { at + size_len size ≤ 4096 }
     ensures value { result ≡ number_at size page.now at }

@@ -4,20 +4,21 @@ ghost use Rattle.sbpf_insn.specs.Table.{is_src};
 ghost use Rattle.sbpf_insn.specs.declared.insn.Src.TheVariants as src;
 ghost use Rattle.sbpf_insn.specs.Arithmetic.{extended, movsx_of, swap_of};
 ghost use Rattle.sbpf_insn.specs.Machine as machine;
-ghost use Rattle.sbpf_insn.specs.Machine.{Goes, step_at, operand, address, alu_of, neg_of, jumped, target, holds, call, leave, size_width, load_step, store, store_step};
+ghost use Rattle.sbpf_insn.specs.Machine.{Goes, step, step_at, after_slot, operand, address, alu_of, neg_of, jumped, target, holds, call, leave, size_width, load_step, store, store_step};
 ghost use Rattle.sbpf_exec.specs.Steps.{state, advanced, to_store, Reaches};
 ghost use Rattle.sbpf_exec.specs.Parts.{machine_regions, IsShaped, WritesWithin};
-ghost use Rattle.sbpf_exec.specs.FlatCells.{insn_of, is_formed, Mirrors};
+ghost use Rattle.sbpf_exec.specs.FlatCells.{insn_of, is_formed, Stands, Mirrors};
+ghost use Rattle.sbpf_insn.specs.Cells.{at_slot};
 
-use crate::cells::{CELLS, Cell};
+use crate::cells::Cell;
 use crate::cpu::Cpu;
 use crate::regions::Regions;
 use crate::step::{
     Ending, address_of, call_to, computes, extend, get, is_met, jump_to, leave_frame, negated,
-    operand_of, set,
+    next, operand_of, set,
 };
 use sbpf_alu::{movsx, swap};
-use sbpf_insn::{AluOp, Code, Cond, Order, Reg, Size, Src};
+use sbpf_insn::{AluOp, Code, Cond, Insn, Order, Reg, Size, Src};
 
 /// What a quick step came to: on to the next slot, to another slot, a store that is still to be made, or
 /// nothing, so that the step of the instruction has to be made.
@@ -34,7 +35,7 @@ pub enum Advance {
 }
 
 // An operation.
-#[inline]
+#[inline(always)]
 fn operates(cpu: &mut Cpu, wide: bool, op: AluOp, dst: Reg, src: Src) -> Advance
     requires dst { dst.n ≤ 10 }
     requires src { IsTrue (is_src src) }
@@ -113,7 +114,7 @@ fn leaves(cpu: &mut Cpu, slot: u32) -> Advance
 }
 
 // A conditional jump, on 64 bits where it is wide.
-#[inline]
+#[inline(always)]
 fn jumps(cpu: &Cpu, slot: u32, wide: bool, cond: Cond, dst: Reg, src: Src, offset: i16) -> Advance
     requires dst { dst.n ≤ 10 }
     requires src { IsTrue (is_src src) }
@@ -167,8 +168,8 @@ fn jump32_reg(cpu: &Cpu, slot: u32, cond: Cond, dst: Reg, from: Reg, offset: i16
     jumps(cpu, slot, false, cond, dst, Src::Reg(from), offset)
 }
 
-// A load; `Slow`, and nothing changes, where it isn't near.
-#[inline]
+// A load; `Slow`, and nothing changes, where it traps.
+#[inline(always)]
 fn load(
     cpu: &mut Cpu,
     regions: &Regions,
@@ -186,7 +187,24 @@ fn load(
     ensures none { advanced result slot ≡ None → cpu.new ≡ cpu.old }
 {
     let address = address_of(cpu, base, offset);
-    match regions.load_near(cpu.registers[10], address, size) {
+    let top = cpu.registers[10];
+    // Each region has a load of its own, so that no test follows it.
+    if regions.is_in_input(address, size) {
+        let value = regions.input_number(top, address, size);
+        set(cpu, dst, value);
+        return Advance::Next;
+    }
+    if regions.is_in_stack(top, address, size) {
+        let value = regions.number_in_stack(top, address, size);
+        set(cpu, dst, value);
+        return Advance::Next;
+    }
+    if regions.is_in_output(address, size) {
+        let value = regions.output_number(top, address, size);
+        set(cpu, dst, value);
+        return Advance::Next;
+    }
+    match regions.load_far(top, address, size) {
         None => Advance::Slow,
         Some(value) => {
             set(cpu, dst, value);
@@ -195,8 +213,8 @@ fn load(
     }
 }
 
-// A load with its sign; `Slow`, and nothing changes, where it isn't near.
-#[inline]
+// A load with its sign; `Slow`, and nothing changes, where it traps.
+#[inline(always)]
 fn load_signed(
     cpu: &mut Cpu,
     regions: &Regions,
@@ -214,7 +232,13 @@ fn load_signed(
     ensures none { advanced result slot ≡ None → cpu.new ≡ cpu.old }
 {
     let address = address_of(cpu, base, offset);
-    match regions.load_near(cpu.registers[10], address, size) {
+    let top = cpu.registers[10];
+    if regions.is_in_input(address, size) {
+        let value = regions.input_number(top, address, size);
+        set(cpu, dst, extend(size, value));
+        return Advance::Next;
+    }
+    match regions.load_far(top, address, size) {
         None => Advance::Slow,
         Some(value) => {
             set(cpu, dst, extend(size, value));
@@ -241,7 +265,7 @@ fn put(cpu: &Cpu, size: Size, base: Reg, offset: i16, src: Src) -> Advance
 
 // The step of a cell's instruction, up to what it stores; `Slow`, and nothing changes, where the cell has
 // none or it may trap.
-#[inline]
+#[inline(always)]
 fn quick_step(cell: &Cell, cpu: &mut Cpu, regions: &Regions, slot: u32) -> Advance
     requires formed { IsTrue (is_formed (insn_of cell.now)) }
     requires shaped { IsShaped regions.now }
@@ -374,7 +398,7 @@ fn quick_step(cell: &Cell, cpu: &mut Cpu, regions: &Regions, slot: u32) -> Advan
 }
 
 // A store, with code of its own for each size.
-#[inline]
+#[inline(always)]
 fn makes_store(regions: &mut Regions, top: u64, address: u64, size: Size, value: u64) -> bool
     requires shaped { IsShaped regions.old }
     ensures done { IsTrue result → store (machine_regions regions.old) top address size value ≡ Some (machine_regions regions.new) }
@@ -392,7 +416,7 @@ fn makes_store(regions: &mut Regions, top: u64, address: u64, size: Size, value:
 }
 
 // The step of a cell's instruction; `Slow`, and nothing changes, where the cell has none or it may trap.
-#[inline]
+#[inline(always)]
 fn whole_step(cell: &Cell, cpu: &mut Cpu, regions: &mut Regions, slot: u32) -> Advance
     requires formed { IsTrue (is_formed (insn_of cell.now)) }
     requires shaped { IsShaped regions.old }
@@ -420,6 +444,48 @@ fn whole_step(cell: &Cell, cpu: &mut Cpu, regions: &mut Regions, slot: u32) -> A
     }
 }
 
+// Makes the step of a wide load; false, and nothing changes, where none begins at the slot. It is a call,
+// since the whole instruction takes room that each step would clear.
+#[inline(never)]
+#[tactic(auto, unfolding(sbpf_insn::specs::Machine::step))]
+fn loads_wide(code: &Code, cpu: &mut Cpu, slot: u32) -> bool
+    ensures done { IsTrue result → (m : machine.Regions) → step code.now.insns (state cpu.old slot m) ≡ Goes (state cpu.new (after_slot slot 2) m) }
+    ensures none { IsFalse result → cpu.new ≡ cpu.old }
+{
+    match code.at_slot(slot) {
+        Some(Insn::LoadWide { dst, value }) => {
+            set(cpu, dst, value);
+            true
+        }
+        _ => false,
+    }
+}
+
+// The step of the code at a slot, whose cell this is; `Slow`, and nothing changes, where it may trap, or
+// is atomic.
+#[inline(always)]
+fn code_step(code: &Code, cell: &Cell, cpu: &mut Cpu, regions: &mut Regions, slot: u32) -> Advance
+    requires stands { Stands (insn_of cell.now) (at_slot code.now.insns slot) }
+    requires shaped { IsShaped regions.old }
+    ensures next { IfSome (advanced result slot) (λ n. step code.now.insns (state cpu.old slot (machine_regions regions.old)) ≡ Goes (state cpu.new n (machine_regions regions.new))) }
+    ensures none { advanced result slot ≡ None → cpu.new ≡ cpu.old }
+    ensures kept { advanced result slot ≡ None → machine_regions regions.new ≡ machine_regions regions.old }
+    ensures within { WritesWithin regions.old regions.new }
+    ensures shaped { IsShaped regions.new }
+{
+    match whole_step(cell, cpu, regions, slot) {
+        Advance::Next => Advance::Next,
+        Advance::To(to) => Advance::To(to),
+        _ => {
+            if loads_wide(code, cpu, slot) {
+                Advance::To(next(slot, 2))
+            } else {
+                Advance::Slow
+            }
+        }
+    }
+}
+
 /// How many steps were made, and the slot to go on at.
 #[derive(Clone, Copy)]
 pub struct Reached {
@@ -427,48 +493,19 @@ pub struct Reached {
     pub slot: u32,
 }
 
-// Quick steps from a slot on, up to the first that leaves the line of slots or is none.
-#[inline]
-fn straight(
-    code: &Code,
-    cells: &[Cell; CELLS],
-    cpu: &mut Cpu,
-    regions: &mut Regions,
-    first: u32,
-) -> Reached
-    requires mirrors { Mirrors cells.now code.now.insns }
-    requires shaped { IsShaped regions.old }
-    ensures reaches { Reaches result.steps code.now.insns (state cpu.old first (machine_regions regions.old)) (state cpu.new result.slot (machine_regions regions.new)) }
-    ensures few { result.steps ≤ 4096 }
-    ensures within { WritesWithin regions.old regions.new }
-    ensures shaped { IsShaped regions.new }
-{
-    let mut slot = first;
-    while (slot as usize) < CELLS {
-        match whole_step(&cells[slot as usize], cpu, regions, slot) {
-            Advance::Next => slot += 1,
-            Advance::To(to) => {
-                let steps = (slot - first) as u64 + 1;
-                return Reached { steps, slot: to };
-            }
-            _ => {
-                let steps = (slot - first) as u64;
-                return Reached { steps, slot };
-            }
-        }
-    }
-    Reached {
-        steps: (slot - first) as u64,
-        slot,
-    }
-}
+// How many steps are made at once.
+const MOST: u64 = 1 << 62;
 
-/// As many quick steps as can be made with this fuel, short of its last 4,096 units, so that only jumps
-/// have to look at it.
+/// As many quick steps as can be made with this fuel, short of its last units, of which there are as many
+/// as the code has slots.
+///
+/// `credit` is the slot and the fuel that is left from there, so that a step to the next slot changes the
+/// slot alone. Where it is above the number of slots there is fuel up to the end of the code, so only
+/// jumps have to look at it.
 #[inline(never)]
 pub(crate) fn quick_run(
     code: &Code,
-    cells: &[Cell; CELLS],
+    cells: &[Cell],
     cpu: &mut Cpu,
     regions: &mut Regions,
     first: u32,
@@ -481,17 +518,33 @@ pub(crate) fn quick_run(
     ensures within { WritesWithin regions.old regions.new }
     ensures shaped { IsShaped regions.new }
 {
-    let mut slot = first;
-    let mut left = fuel;
-    while left > CELLS as u64 {
-        let reached = straight(code, cells, cpu, regions, slot);
-        slot = reached.slot;
-        if reached.steps == 0 {
-            let steps = fuel - left;
-            return Reached { steps, slot };
-        }
-        left -= reached.steps;
+    let end = code.slots();
+    let most = if fuel > MOST { MOST } else { fuel };
+    let mut slot = first as usize;
+    let mut credit = most + first as u64;
+    if cells.len() <= end as usize || end < first || credit <= end as u64 {
+        return Reached {
+            steps: 0,
+            slot: first,
+        };
     }
-    let steps = fuel - left;
-    Reached { steps, slot }
+    loop {
+        match code_step(code, &cells[slot], cpu, regions, slot as u32) {
+            Advance::Next => slot += 1,
+            Advance::To(to) => {
+                let left = credit - slot as u64 - 1;
+                slot = to as usize;
+                credit = left + to as u64;
+                if end < to || credit <= end as u64 {
+                    let steps = most - left;
+                    return Reached { steps, slot: to };
+                }
+            }
+            _ => {
+                let steps = most - (credit - slot as u64);
+                let slot = slot as u32;
+                return Reached { steps, slot };
+            }
+        }
+    }
 }

@@ -47,9 +47,23 @@ fn are_whole(pages: &[Page])
     }
 }
 
+// The number at a place of the first len bytes of a region, where it is wholly there.
+#[inline(always)]
+#[tactic(auto, using(crate::proofs::Windows::flat_read, crate::proofs::Windows::paged_read))]
+pub(crate) fn inside_number(region: &Region, len: usize, at: usize, size: Size) -> u64
+    requires placed { IsPlaced region.now len }
+    requires near { at < 2 ^ 32 }
+    requires fits { at + size_len size ≤ len }
+    ensures { result ≡ number_at size (take len (region_bytes region.now)) at }
+{
+    match region {
+        Region::Flat(bytes) => number(bytes.as_slice(), at, size),
+        Region::Paged { pages, start, .. } => paged_number(pages, *start, at, size),
+    }
+}
+
 // The number at a place of the first len bytes of a region; None where it isn't wholly there.
 #[inline]
-#[tactic(auto, using(crate::proofs::Windows::flat_read, crate::proofs::Windows::paged_read))]
 pub(crate) fn region_number(region: &Region, len: usize, at: usize, size: Size) -> Option<u64>
     requires placed { IsPlaced region.now len }
     requires near { at < 2 ^ 32 }
@@ -58,10 +72,7 @@ pub(crate) fn region_number(region: &Region, len: usize, at: usize, size: Size) 
     if at + size_len(size) > len {
         return None;
     }
-    Some(match region {
-        Region::Flat(bytes) => number(bytes.as_slice(), at, size),
-        Region::Paged { pages, start, .. } => paged_number(pages, *start, at, size),
-    })
+    Some(inside_number(region, len, at, size))
 }
 
 // Writes a number at a place of the first len bytes of a region; false, and nothing changes, where it

@@ -3,12 +3,12 @@ ghost use Rattle.std.specs.Prelude.{◌≡◌, ◌+◌, ◌-◌, ◌^◌, ◌<�
 ghost use Rattle.std.specs.Borrow.{sem};
 ghost use Rattle.sbpf_insn.specs.Machine.{load, load_writable, store, shaped, number_at, put_number, size_len};
 ghost use Rattle.sbpf_exec.specs.Buffers.{Fits, placed, part};
-ghost use Rattle.sbpf_exec.specs.Parts.{lengths_context, input_of, output_of, param_of, machine_regions, IsShaped, WritesWithin};
+ghost use Rattle.sbpf_exec.specs.Parts.{lengths_context, IsInInput, IsInOutput, IsInStack, input_of, output_of, param_of, machine_regions, IsShaped, WritesWithin};
 ghost use Rattle.sbpf_exec.specs.Lending.{LendsInput, LendsOutput};
 
 use crate::number::{number, put_number, size_len};
 use crate::pages::{page_number, put_in_one};
-use crate::region::{Region, place, put_in_region, region_number};
+use crate::region::{Region, inside_number, place, put_in_region, region_number};
 use edge_io::Bytes;
 use page_base::Page;
 use sbpf_insn::Size;
@@ -132,31 +132,70 @@ impl Regions {
         }
     }
 
-    // The number at an address, found soonest in the input, the stack and the output; None where it isn't
-    // wholly in one region.
+    // Whether a number at an address lies wholly in the input.
     #[inline]
-    pub(crate) fn load_near(&self, top: u64, address: u64, size: Size) -> Option<u64>
-        requires { IsShaped self.now }
-        ensures { IfSome result (λ v. load (machine_regions self.now) top address size ≡ Some v) }
+    pub(crate) fn is_in_input(&self, address: u64, size: Size) -> bool
+        ensures { IsTrue result → IsInInput self.now address size }
     {
         let at = (address % 0x1_0000_0000) as usize;
-        let area = address / 0x1_0000_0000;
-        if area == 2 {
-            let len = self.input_len;
-            region_number(&self.input, len, at, size)
-        } else if area == 5 {
-            stack_number(&self.stack, top, at, size)
-        } else if area == 3 {
-            let len = self.output_len;
-            region_number(&self.output, len, at, size)
-        } else {
-            self.load_far(top, address, size)
-        }
+        address / 0x1_0000_0000 == 2 && at + size_len(size) <= self.input_len
     }
 
-    // The same number, by a call.
+    // The number at an address in the input, whatever r10 is.
+    #[inline(always)]
+    pub(crate) fn input_number(&self, top: u64, address: u64, size: Size) -> u64
+        requires shaped { IsShaped self.now }
+        requires inside { IsInInput self.now address size }
+        ensures { load (machine_regions self.now) top address size ≡ Some result }
+    {
+        let at = (address % 0x1_0000_0000) as usize;
+        inside_number(&self.input, self.input_len, at, size)
+    }
+
+    // Whether a number at an address lies wholly in the output.
+    #[inline]
+    pub(crate) fn is_in_output(&self, address: u64, size: Size) -> bool
+        ensures { IsTrue result → IsInOutput self.now address size }
+    {
+        let at = (address % 0x1_0000_0000) as usize;
+        address / 0x1_0000_0000 == 3 && at + size_len(size) <= self.output_len
+    }
+
+    // The number at an address in the output, whatever r10 is.
+    #[inline(always)]
+    pub(crate) fn output_number(&self, top: u64, address: u64, size: Size) -> u64
+        requires shaped { IsShaped self.now }
+        requires inside { IsInOutput self.now address size }
+        ensures { load (machine_regions self.now) top address size ≡ Some result }
+    {
+        let at = (address % 0x1_0000_0000) as usize;
+        inside_number(&self.output, self.output_len, at, size)
+    }
+
+    // Whether a number at an address lies wholly in the stack below r10.
+    #[inline]
+    pub(crate) fn is_in_stack(&self, top: u64, address: u64, size: Size) -> bool
+        ensures { IsTrue result → IsInStack top address size }
+    {
+        let at = (address % 0x1_0000_0000) as usize;
+        let len = size_len(size);
+        address / 0x1_0000_0000 == 5 && at + len <= 4096 && address + len as u64 <= top
+    }
+
+    // The number at an address in the stack.
+    #[inline(always)]
+    pub(crate) fn number_in_stack(&self, top: u64, address: u64, size: Size) -> u64
+        requires shaped { IsShaped self.now }
+        requires inside { IsInStack top address size }
+        ensures { load (machine_regions self.now) top address size ≡ Some result }
+    {
+        let at = (address % 0x1_0000_0000) as usize;
+        page_number(&self.stack, at, size)
+    }
+
+    // The number at an address, by a call.
     #[inline(never)]
-    fn load_far(&self, top: u64, address: u64, size: Size) -> Option<u64>
+    pub(crate) fn load_far(&self, top: u64, address: u64, size: Size) -> Option<u64>
         requires { IsShaped self.now }
         ensures { result ≡ load (machine_regions self.now) top address size }
     {
@@ -185,8 +224,8 @@ impl Regions {
         }
     }
 
-    // The same write, soonest to the stack.
-    #[inline]
+    // The same write, soonest to the stack and to the output.
+    #[inline(always)]
     pub(crate) fn store_near(&mut self, top: u64, address: u64, size: Size, value: u64) -> bool
         requires { IsShaped self.old }
         ensures done { IsTrue result → store (machine_regions self.old) top address size value ≡ Some (machine_regions self.new) }
@@ -195,13 +234,16 @@ impl Regions {
         ensures within { WritesWithin self.old self.new }
         ensures shaped { IsShaped self.new }
     {
-        let at = (address % 0x1_0000_0000) as usize;
-        let area = address / 0x1_0000_0000;
-        if area == 5 {
-            put_in_stack(&mut self.stack, top, at, size, value)
-        } else {
-            self.store_far(top, address, size, value)
+        if self.is_in_stack(top, address, size) {
+            let at = (address % 0x1_0000_0000) as usize;
+            put_in_one(&mut self.stack, at, size, value);
+            return true;
         }
+        if self.is_in_output(address, size) {
+            let at = (address % 0x1_0000_0000) as usize;
+            return put_in_region(&mut self.output, self.output_len, at, size, value);
+        }
+        self.store_far(top, address, size, value)
     }
 
     // The same write, by a call.

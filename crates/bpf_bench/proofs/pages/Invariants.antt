@@ -1,5 +1,5 @@
 use Rattle.std.proofs.Common.{◌≡◌, length}
 use Rattle.bpf_bench.proofs.pages.Given as goal
 
-abbrev pub invariant-loop : goal.invariant-loop
-invariant-loop l = length l.pages.items ≡ l.counter
+abbrev pub invariant-loop-i : goal.invariant-loop-i
+invariant-loop-i l = length l.pages.items ≡ l.i
